@@ -23,8 +23,10 @@ use Rattle.kp_restore_defs.specs.TableText.{table_text_of}
 use Rattle.kp_text_defs.specs.Live.{final_text}
 use Rattle.kp_feed.specs.Feeding.{Delivers}
 use Rattle.kp_feed.specs.Passes.{Feeder, QueueId}
+use Rattle.kp_run_defs.specs.CountedRuns as by_counts
 use Rattle.kp_run_defs.specs.LegalRuns as legal
-use Rattle.kp_run_defs.specs.LegalRuns.{LiveRun, Mark, Shows, Refuses, IsLegalRun, HasWholeStream, final_clash, is_accepted_sync, is_shown, is_sync, last_syncs, nothing_seen, records_in}
+use Rattle.kp_run_defs.specs.CountedRuns.{IsCountedRun, is_accepted_sync, nothing_seen}
+use Rattle.kp_run_defs.specs.LegalRuns.{LiveRun, Mark, Shows, Refuses, HasWholeStream, final_clash, is_shown, is_sync, last_syncs, records_in}
 use Rattle.kp_run_defs.specs.LiveLines.{Reading, events_fed, events_of_stream, is_line_of, running_streams}
 use Rattle.kp_run_defs.specs.LiveText as text
 use Rattle.kp_run_defs.specs.declared.live.StreamLine.{StreamLine}
@@ -311,11 +313,11 @@ none_shown_denied (s ∷ all) none =
 
 -- its refusal, by its mark
 refusal_by : (run : LiveRun) (refusals : List Refusal)
-    → AllByRecursion (λ (r : Refusal). legal.IsClash run r.clash) refusals → (m : Mark)
-    → (is_shown m ≡ false → 0 < length refusals) → legal.IsRefusal run (settled refusals m)
+    → AllByRecursion (λ (r : Refusal). by_counts.IsClash run r.clash) refusals → (m : Mark)
+    → (is_shown m ≡ false → 0 < length refusals) → by_counts.IsRefusal run (settled refusals m)
 refusal_by run refusals all (Shows n) some = tt
 refusal_by run refusals all (Refuses clash) some =
-    kept_is (legal.IsClash run) refusals clash all (some refl)
+    kept_is (by_counts.IsClash run) refusals clash all (some refl)
 
 -- a list of events of no stream
 no_events : (fed : List Fed) → AllByRecursion (λ (f : Fed). f.feeder < 1) fed
@@ -387,16 +389,16 @@ module _ (reading : Reading) (read : IsRead reading) (start : TableParts)
   fits : (i : ℕ) → (seen_from (length records) (at i)).fits ≡ true
   fits = fits_at reading start queue stands each records met
 
-  seen : (i : ℕ) → (legal.seen_by run i).fits ≡ true
+  seen : (i : ℕ) → (by_counts.seen_by run i).fits ≡ true
   seen i =
       seen_fits run refusals i (at i) (lines_at reading start queue stands each read counts_n.0 i)
       (shows_at i) (ap (λ r. (seen_from r (at i)).fits) same_count ∙ fits i)
 
   all_seen : (a k : ℕ)
-      → list_all (λ i. (legal.seen_by run i).fits) (range_with_len a k) ≡ true
+      → list_all (λ i. (by_counts.seen_by run i).fits) (range_with_len a k) ≡ true
   all_seen a zero = refl
   all_seen a (suc k) =
-      ap (λ b. b && list_all (λ i. (legal.seen_by run i).fits) (range_with_len (a + 1) k)) (seen a)
+      ap (λ b. b && list_all (λ i. (by_counts.seen_by run i).fits) (range_with_len (a + 1) k)) (seen a)
       ∙ all_seen (a + 1) k
 
   has : AllByRecursion (λ (s : Shown). HasRecord (length records) s.1 s.0.work) merged.all
@@ -450,7 +452,7 @@ module _ (reading : Reading) (read : IsRead reading) (start : TableParts)
   clash_is : clash ≡ final_clash run
   clash_is = out.end.clash_is
 
-  enough : legal.accepted_syncs run + last_syncs (final_clash run) ≤ records_in run
+  enough : by_counts.accepted_syncs run + last_syncs (final_clash run) ≤ records_in run
   enough =
       let count = ap (count_by (is_accepted_sync run)) (sym merged.lines_are)
       ∙ count_accepted run refusals merged.all shows ∙ all_accepted in
@@ -459,9 +461,9 @@ module _ (reading : Reading) (read : IsRead reading) (start : TableParts)
 
   -- ---- Refusals
 
-  clashes : AllByRecursion (λ (r : Refusal). legal.IsClash run r.clash) refusals
+  clashes : AllByRecursion (λ (r : Refusal). by_counts.IsClash run r.clash) refusals
   clashes =
-      all_weaker (IsRefusal reading.config journal) (λ (r : Refusal). legal.IsClash run r.clash)
+      all_weaker (IsRefusal reading.config journal) (λ (r : Refusal). by_counts.IsClash run r.clash)
       (λ r refused. (r.events, refused.clash)) refusals out.end.refused
 
   kept_one : (b : Bool) → nat_lt 0 (length refusals) ≡ b → (s : Shown)
@@ -481,25 +483,25 @@ module _ (reading : Reading) (read : IsRead reading) (start : TableParts)
 
   one_refusal : (s : Shown) → ShowsIt run refusals s
       → (nat_lt 0 (length refusals) ≡ false → is_denied s ≡ false)
-      → legal.HasRefusal run s.0
+      → by_counts.HasRefusal run s.0
   one_refusal s shown none sync =
-      subst (legal.IsRefusal run) (sym shown)
+      subst (by_counts.IsRefusal run) (sym shown)
       (refusal_by run refusals clashes s.1
       (λ unshown. kept_one (nat_lt 0 (length refusals)) refl s none sync unshown))
 
   all_refusals_by : (all : List Shown) → AllByRecursion (ShowsIt run refusals) all
       → (nat_lt 0 (length refusals) ≡ false
       → AllByRecursion (λ (s : Shown). is_denied s ≡ false) all)
-      → AllByRecursion (legal.HasRefusal run) (map line_of all)
+      → AllByRecursion (by_counts.HasRefusal run) (map line_of all)
   all_refusals_by [] shown none = tt
   all_refusals_by (s ∷ all) shown none = (
     one_refusal s shown.0 (λ is. (none is).0),
     all_refusals_by all shown.1 (λ is. (none is).1),
   )
 
-  all_refusals : AllByRecursion (legal.HasRefusal run) reading.lines
+  all_refusals : AllByRecursion (by_counts.HasRefusal run) reading.lines
   all_refusals =
-      subst (AllByRecursion (legal.HasRefusal run)) merged.lines_are
+      subst (AllByRecursion (by_counts.HasRefusal run)) merged.lines_are
       (all_refusals_by merged.all shows none_denied)
 
   -- ---- The journal
@@ -542,8 +544,8 @@ module _ (reading : Reading) (read : IsRead reading) (start : TableParts)
 
   -- ---- All of it
 
-  is_legal : IsLegalRun run
-  is_legal = record {
+  is_counted : IsCountedRun run
+  is_counted = record {
     journal = record {
       owned = owned (nat_lt 0 (length reading.streams)) refl;
       each = whole_streams 0 (length reading.streams) (omega (arith, counts_n.0));
@@ -591,7 +593,7 @@ module _ (reading : Reading) (read : IsRead reading) (start : TableParts)
     told = told;
     answers_are = answers_at reading start queue stands each;
     run = run;
-    runs = record { reads = refl; legal = is_legal };
+    runs = record { reads = refl; counted = is_counted };
     text =
         prints_run run journal notes refusals clash table told refl
         (sym (notes_print reading journal notes out.end.exact marks out.end.notes_are))

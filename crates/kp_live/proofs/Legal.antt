@@ -4,7 +4,8 @@ use Rattle.std.specs.Prelude.{count_by, nat_le}
 use Rattle.std.specs.List.{AllByRecursion, filter, fold, list_any}
 use Rattle.std.proofs.lemmas.Bool.{eqb-true, eq-eqb, leb-true}
 use Rattle.std.proofs.lemmas.List.Sums.{sum_by-cons}
-use Rattle.kp_run_defs.specs.LegalRuns.{LiveRun, Mark, Shows, Refuses, Seen, nothing_seen, seen_line, seen_by, seen_work, is_sync, is_shown, is_accepted_sync, records_in}
+use Rattle.kp_run_defs.specs.CountedRuns.{Seen, nothing_seen, seen_line, seen_by, seen_work, is_accepted_sync}
+use Rattle.kp_run_defs.specs.LegalRuns.{LiveRun, Mark, Shows, Refuses, is_sync, is_shown, records_in}
 use Rattle.kp_run_defs.specs.LiveLines.{lines_of_stream}
 use Rattle.kp_run_defs.specs.LiveText.{is_refused_sync}
 use Rattle.kp_run_defs.specs.declared.live.StreamLine.{StreamLine}

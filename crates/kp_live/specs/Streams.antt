@@ -16,7 +16,8 @@ use Rattle.kp_history_defs.specs.History.{table_from}
 use Rattle.kp_text_defs.specs.Live.{live_sync_text}
 use Rattle.kp_text_defs.specs.declared.packet.PacketLine.{PacketLine}
 use Rattle.kp_run_defs.specs.AnswerText.{walk_at}
-use Rattle.kp_run_defs.specs.LegalRuns.{Mark, Shows, Refuses, Seen, nothing_seen, seen_work, is_sync, is_shown}
+use Rattle.kp_run_defs.specs.CountedRuns.{Seen, nothing_seen, seen_work}
+use Rattle.kp_run_defs.specs.LegalRuns.{Mark, Shows, Refuses, is_sync, is_shown}
 use Rattle.kp_run_defs.specs.LiveLines.{events_fed}
 use Rattle.kp_run_defs.specs.ReplayText.{no_sources}
 use Rattle.kp_run_defs.specs.declared.live.StreamLine.{StreamLine}

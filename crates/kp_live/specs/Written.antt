@@ -7,7 +7,8 @@ use Rattle.kp_io.specs.Lines.{lines_of}
 use Rattle.kp_io.specs.Told.{Grows}
 use Rattle.kp_io.specs.declared.next_line.TheConstants.{INPUT_LIMIT}
 use Rattle.kp_run_defs.specs.LiveLines.{Reading, reading_of}
-use Rattle.kp_run_defs.specs.LegalRuns.{LiveRun, IsLegalRun}
+use Rattle.kp_run_defs.specs.CountedRuns.{IsCountedRun}
+use Rattle.kp_run_defs.specs.LegalRuns.{LiveRun}
 use Rattle.kp_run_defs.specs.LiveText.{live_text, is_refused_run}
 use Rattle.kp_live.specs.declared.fault.LiveFault.{LiveFault}
 use Rattle.kp_live.specs.declared.fault.LiveFault.TheVariants.{InputTooLong, NoMemory, ReadFault, WriteFault}
@@ -41,20 +42,20 @@ abbrev pub said_of : Result (Unit {0}) LiveFault → Bool → Result Bool LiveFa
 said_of (Ok u) b = Ok b
 said_of (Err fault) b = Err fault
 
--- a run of this reading that the rules allow
+-- a run of this reading that is legal by counts
 pub record RunsReading (reading : Reading) (run : LiveRun) : Type 0 where
   pub reads : run.reading ≡ reading
-  pub legal : IsLegalRun run
+  pub counted : IsCountedRun run
 
--- The whole text of a legal run of a reading was written, and this is whether a line or the sync
--- that ends it was refused.
+-- The whole text of a run of a reading that is legal by counts was written, and this is whether a
+-- line or the sync that ends it was refused.
 pub record WritesRun (refused : Bool) (reading : Reading) (before now : Output) : Type 0 where
   pub run : LiveRun
   pub runs : RunsReading reading run
   pub grown : Grows before.written now.written (live_text run)
   pub told : refused ≡ is_refused_run run
 
--- nothing was written, or a front of the text of a legal run of a reading
+-- nothing was written, or a front of the text of such a run
 abbrev pub WritesFront : Reading → Output → Output → Type 0
 WritesFront reading before now =
     Grows before.written now.written []
@@ -76,8 +77,8 @@ pub record EndsRun (result : Result Bool LiveFault) (reading : Reading) (before 
       → now.faults ≡ before.faults
   pub other : IfErr result IsOfPrinting
 
--- the text of a legal run of the input was written, where that is told, which is no longer than may
--- be read
+-- the text of a run of the input that is legal by counts was written, where that is told, which is
+-- no longer than may be read
 pub record WritesInput (refused : Bool) (text : List ℕ) (before now : Output) : Type 0 where
   pub writes : WritesRun refused (reading_of (lines_of text)) before now
   pub short : length text ≤ INPUT_LIMIT

@@ -1,4 +1,5 @@
 pub mod AnswerText
+pub mod CountedRuns
 pub mod GenText
 pub mod LegalRuns
 pub mod LiveLines

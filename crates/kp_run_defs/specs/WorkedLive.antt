@@ -125,12 +125,13 @@ run_of lines journal counts marks = record {
 abbrev pub fed : ℕ → ℕ → Event → Fed
 fed stream number event = record { feeder = stream; number = number; event = event }
 
--- stream a feeds two events and syncs twice; stream b sends a packet, feeds one, and sends again
+-- stream a feeds an event and syncs, twice; stream b sends a packet, feeds one, and sends again
 abbrev pub two_streams : List Read
 two_streams =
-    by (codes "a") (op.Events (gone (codes "x") ∷ gone (codes "y") ∷ [])) ∷ by (codes "a") op.Sync
-    ∷ by (codes "b") (op.Packet sent) ∷ by (codes "a") op.Sync
-    ∷ by (codes "b") (op.Events (gone (codes "z") ∷ [])) ∷ by (codes "b") (op.Packet sent) ∷ []
+    by (codes "a") (op.Events (gone (codes "x") ∷ [])) ∷ by (codes "a") op.Sync
+    ∷ by (codes "b") (op.Packet sent) ∷ by (codes "a") (op.Events (gone (codes "y") ∷ []))
+    ∷ by (codes "a") op.Sync ∷ by (codes "b") (op.Events (gone (codes "z") ∷ []))
+    ∷ by (codes "b") (op.Packet sent) ∷ []
 
 -- a journal in which the other stream's event came between
 abbrev pub mixed : List Fed
@@ -143,7 +144,8 @@ whole_counts = 1 ∷ 2 ∷ 0 ∷ []
 
 -- the packets are answered before any sync and after the first
 abbrev pub fitting : List Mark
-fitting = Shows 0 ∷ Shows 1 ∷ Shows 0 ∷ Shows 2 ∷ Shows 0 ∷ Shows 1 ∷ []
+fitting =
+    Shows 0 ∷ Shows 1 ∷ Shows 0 ∷ Shows 0 ∷ Shows 2 ∷ Shows 0 ∷ Shows 1 ∷ []
 
 -- it is legal
 abbrev pub Legal : Type 0
@@ -204,25 +206,25 @@ OneRecordForTwo =
 abbrev pub SyncTwice : Type 0
 SyncTwice =
     IsBroken (run_of two_streams mixed whole_counts
-    (Shows 0 ∷ Shows 1 ∷ Shows 0 ∷ Shows 1 ∷ Shows 0 ∷ Shows 1 ∷ []))
+    (Shows 0 ∷ Shows 1 ∷ Shows 0 ∷ Shows 0 ∷ Shows 1 ∷ Shows 0 ∷ Shows 1 ∷ []))
 
 -- a sync shows a record that isn't there
 abbrev pub SyncOfNoRecord : Type 0
 SyncOfNoRecord =
     IsBroken (run_of two_streams mixed whole_counts
-    (Shows 0 ∷ Shows 1 ∷ Shows 0 ∷ Shows 4 ∷ Shows 0 ∷ Shows 1 ∷ []))
+    (Shows 0 ∷ Shows 1 ∷ Shows 0 ∷ Shows 0 ∷ Shows 4 ∷ Shows 0 ∷ Shows 1 ∷ []))
 
 -- a packet shows a record that isn't there
 abbrev pub PacketOfNoRecord : Type 0
 PacketOfNoRecord =
     IsBroken (run_of two_streams mixed whole_counts
-    (Shows 0 ∷ Shows 1 ∷ Shows 0 ∷ Shows 2 ∷ Shows 0 ∷ Shows 4 ∷ []))
+    (Shows 0 ∷ Shows 1 ∷ Shows 0 ∷ Shows 0 ∷ Shows 2 ∷ Shows 0 ∷ Shows 4 ∷ []))
 
 -- a packet shows less than one before it in its stream
 abbrev pub PacketGoesBack : Type 0
 PacketGoesBack =
     IsBroken (run_of two_streams mixed whole_counts
-    (Shows 0 ∷ Shows 1 ∷ Shows 2 ∷ Shows 2 ∷ Shows 0 ∷ Shows 1 ∷ []))
+    (Shows 0 ∷ Shows 1 ∷ Shows 2 ∷ Shows 0 ∷ Shows 2 ∷ Shows 0 ∷ Shows 1 ∷ []))
 
 -- a packet shows less than a sync before it in its stream
 abbrev pub PacketBeforeSync : Type 0

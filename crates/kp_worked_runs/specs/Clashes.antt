@@ -8,12 +8,12 @@ use Rattle.kp_history_defs.specs.declared.fed.Fed.{Fed}
 use Rattle.kp_text_defs.specs.declared.script.Op.TheVariants as op
 use Rattle.kp_run_defs.specs.LegalRuns.{IsLegalRun, LiveRun, Mark, Refuses, Shows}
 use Rattle.kp_run_defs.specs.LiveText.{is_refused_run}
-use Rattle.kp_run_defs.specs.WorkedLive.{IsBroken, fed, run_of}
+use Rattle.kp_run_defs.specs.WorkedLive.{IsBroken, by, fed, run_of}
 use Rattle.kp_worked.specs.Setting.{ep1, ep2, first, second, web_port}
 use Rattle.kp_worked.specs.Events.{apply_web}
 use Rattle.kp_worked_runs.specs.Printed.{filter_with, nat_of_one}
 use Rattle.kp_worked_runs.specs.Runs.{Prints, apply_slice, clashing, feeds, main}
-use Rattle.kp_worked_runs.specs.Runs.{refused_at_end, showing, synced}
+use Rattle.kp_worked_runs.specs.Runs.{refused_at_end, sent, showing, synced}
 
 -- the two chains
 abbrev pub clash : Clash
@@ -72,6 +72,25 @@ RefusedBeforePrints =
     ++ codes " and of default/web/TCP 10.244.2.3:8080")
     ∷ codes "sync 6: record 1" ∷ codes "final: record 2" ∷ [])
     ++ nat_of_one (codes "10.244.1.2") ++ filter_with [])
+
+-- ---- A clash that passed before a stream looked
+
+-- another stream sends a packet, which shows this, and its sync is refused by the clash
+abbrev pub refused_behind : Mark → LiveRun
+refused_behind mark =
+    run_of
+    (clashing ++ feeds (apply_slice (first ∷ [])) ∷ by (codes "b") (op.Packet sent)
+    ∷ by (codes "b") op.Sync ∷ [])
+    passing (3 ∷ 0 ∷ [])
+    (Shows 0 ∷ Shows 0 ∷ Shows 0 ∷ Shows 0 ∷ mark ∷ Refuses clash ∷ [])
+
+-- it may be where no record was shown
+abbrev pub RefusedByFirst : Type 0
+RefusedByFirst = IsLegalRun (refused_behind (Shows 0))
+
+-- but not by fewer events than the packet showed
+abbrev pub RefusedByFewer : Type 0
+RefusedByFewer = IsBroken (refused_behind (Shows 1))
 
 -- a run isn't legal whose first record has the clash, though its last one has none
 abbrev pub FirstRecordHasClash : Type 0

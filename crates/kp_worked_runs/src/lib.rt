@@ -53,19 +53,36 @@ pub fn worked_refused_syncs()
     ensures broken { clashes.FirstRecordHasClash }
 {}
 
+/// A clash that has passed refuses a stream that was shown no record, but not one that was shown a
+/// record of more events.
+pub fn worked_late_refusals()
+    ensures first { clashes.RefusedByFirst }
+    ensures fewer { clashes.RefusedByFewer }
+{}
+
 /// A run of two streams whose text has each part but a refused sync.
 pub fn worked_whole_text()
     ensures legal { runs.WholeIsLegal }
     ensures prints { runs.WholePrints }
 {}
 
-/// Runs whose only fault is a number, an event, or a packet that shows less than one before it; and
-/// what syncs may show.
+/// Runs whose only fault is a number, an event, or what a packet or a sync of a stream shows behind
+/// others; and what packets may show.
 pub fn worked_single_faults()
     ensures number { faults.WrongNumber }
     ensures event { faults.WrongEvent }
-    ensures legal { faults.SyncsMayShow }
+    ensures legal { faults.PacketsMayShow }
     ensures packet { faults.PacketForgets }
+    ensures sync { faults.SyncForgets }
+    ensures ahead { faults.PacketIsAhead }
+{}
+
+/// A sync's record has the events that its stream fed, and no other sync's.
+pub fn worked_records_of_syncs()
+    ensures has { faults.SyncHasEvent }
+    ensures lacks { faults.SyncLacksEvent }
+    ensures apart { faults.SyncsAreApart }
+    ensures shared { faults.SyncsShareRecord }
 {}
 
 /// 64 streams are taken and no more.

@@ -1,11 +1,13 @@
-use Rattle.std.proofs.Common.{◌≡◌, ◌≤◌, ◌+◌, ℕ, zero, suc, true, false, [], ◌∷◌, ◌++◌, codes, is_some, refl, ap, sym, subst, lit≤, arith, ◌∙◌}
+use Rattle.std.proofs.Common.{◌≡◌, ◌≤◌, ℕ, zero, suc, true, false, [], ◌∷◌, ◌++◌, codes, is_some, refl, ap, sym, lit≤, arith, ◌∙◌, Some}
 use Rattle.std.specs.Fmt.{digits}
-use Rattle.kp_run_defs.specs.LegalRuns.{HasTable, last_syncs}
+use Rattle.kp_run_defs.specs.LegalRuns.{HasTable}
 use Rattle.kp_run_defs.specs.WorkedLive.{run_of, fed}
 use Rattle.kp_worked.specs.Setting.{first, second}
 use Rattle.kp_worked.specs.Events.{apply_web}
+use Rattle.kp_worked_runs.specs.Clashes.{clash}
 use Rattle.kp_worked_runs.specs.Printed.{nat_of_none, filter_with}
 use Rattle.kp_worked_runs.specs.Runs.{apply_slice, clashing, refused_at_end}
+use Rattle.kp_run_defs.proofs.Apart.{apart_by}
 use Rattle.kp_worked_runs.proofs.ByLists.{clash_is, final_is, prints}
 use Rattle.kp_worked_runs.proofs.worked_clash_at_end.Goals as goal
 
@@ -24,8 +26,8 @@ returns-clause-legal c = record {
         let clash : true ≡ false = sym (ap is_some (final_is refused_at_end)) ∙ h in absurd (cc);
   };
   seen = refl;
-  refusals = (λ h. tt, (λ h. tt, tt));
-  enough = subst (λ clash. 0 + last_syncs clash ≤ 0) (sym (final_is refused_at_end)) (lit≤ tt);
+  refusals = ((λ h. tt, (λ h. tt, tt)), tt);
+  apart = apart_by refused_at_end (Some clash) (final_is refused_at_end) (lit≤ tt) refl;
 }
 
 pub returns-clause-prints : goal.returns-clause-prints

@@ -1,8 +1,9 @@
-use Rattle.std.proofs.Common.{◌≤◌, ◌+◌, ℕ, zero, suc, [], ◌∷◌, ◌++◌, codes, refl, sym, subst, lit≤, arith}
+use Rattle.std.proofs.Common.{◌≤◌, ℕ, zero, suc, [], ◌∷◌, ◌++◌, codes, refl, lit≤, arith, None}
 use Rattle.std.specs.Fmt.{digits}
-use Rattle.kp_run_defs.specs.LegalRuns.{HasTable, last_syncs}
+use Rattle.kp_run_defs.specs.LegalRuns.{HasTable}
 use Rattle.kp_worked_runs.specs.Printed.{nat_of_none, filter_with}
 use Rattle.kp_worked_runs.specs.Runs.{empty}
+use Rattle.kp_run_defs.proofs.Apart.{apart_by}
 use Rattle.kp_worked_runs.proofs.ByLists.{clash_is, final_is, prints}
 use Rattle.kp_worked_runs.proofs.worked_empty_input.Goals as goal
 
@@ -19,7 +20,7 @@ returns-clause-legal c = record {
   covered = record { within = lit≤ tt; all = λ h. refl };
   seen = refl;
   refusals = tt;
-  enough = subst (λ clash. 0 + last_syncs clash ≤ 1) (sym (final_is empty)) (lit≤ tt);
+  apart = apart_by empty None (final_is empty) (lit≤ tt) refl;
 }
 
 pub returns-clause-prints : goal.returns-clause-prints

@@ -1,9 +1,10 @@
-use Rattle.std.proofs.Common.{◌≤◌, ◌+◌, ℕ, zero, suc, [], ◌∷◌, ◌++◌, codes, refl, sym, subst, lit≤, arith}
+use Rattle.std.proofs.Common.{◌≤◌, ℕ, zero, suc, [], ◌∷◌, ◌++◌, codes, refl, lit≤, arith, None}
 use Rattle.std.specs.Fmt.{digits}
 use Rattle.json.specs.Print.{escape_byte}
-use Rattle.kp_run_defs.specs.LegalRuns.{HasTable, last_syncs}
+use Rattle.kp_run_defs.specs.LegalRuns.{HasTable}
 use Rattle.kp_worked_runs.specs.Printed.{nat_of_none, filter_with}
 use Rattle.kp_worked_runs.specs.Runs.{showing}
+use Rattle.kp_run_defs.proofs.Apart.{apart_by}
 use Rattle.kp_worked_runs.proofs.ByLists.{clash_is, final_is, prints}
 use Rattle.kp_worked_runs.proofs.worked_not_for_live.Goals as goal
 
@@ -19,8 +20,8 @@ returns-clause-legal c = record {
   tables = tables;
   covered = record { within = lit≤ tt; all = λ h. refl };
   seen = refl;
-  refusals = (λ h. tt, tt);
-  enough = subst (λ clash. 0 + last_syncs clash ≤ 1) (sym (final_is showing)) (lit≤ tt);
+  refusals = ((λ h. tt, tt), tt);
+  apart = apart_by showing None (final_is showing) (lit≤ tt) refl;
 }
 
 pub returns-clause-prints : goal.returns-clause-prints

@@ -1,11 +1,12 @@
-use Rattle.std.proofs.Common.{◌≡◌, ◌≤◌, ◌+◌, ℕ, zero, suc, true, false, [], ◌∷◌, ◌++◌, codes, is_some, refl, ap, sym, subst, lit≤, arith, ◌∙◌}
+use Rattle.std.proofs.Common.{◌≡◌, ◌≤◌, ℕ, zero, suc, true, false, [], ◌∷◌, ◌++◌, codes, is_some, refl, ap, sym, lit≤, arith, ◌∙◌, None, Some}
 use Rattle.std.specs.Fmt.{digits}
-use Rattle.kp_run_defs.specs.LegalRuns.{HasTable, Refuses, last_syncs}
+use Rattle.kp_run_defs.specs.LegalRuns.{HasTable, IsClashBehind, Refuses, nothing_seen}
 use Rattle.kp_run_defs.specs.WorkedLive.{run_of}
 use Rattle.kp_worked.specs.Setting.{first}
 use Rattle.kp_worked_runs.specs.Clashes.{clash, passing, refused_before, sync_shows}
 use Rattle.kp_worked_runs.specs.Printed.{nat_of_one, filter_with}
 use Rattle.kp_worked_runs.specs.Runs.{apply_slice, clashing, feeds}
+use Rattle.kp_run_defs.proofs.Apart.{apart_by}
 use Rattle.kp_worked_runs.proofs.ByLists.{clash_after, clash_is, final_is, prints}
 use Rattle.kp_worked_runs.proofs.ClashAfter.{never_turned}
 use Rattle.kp_worked_runs.proofs.worked_refused_syncs.Goals as goal
@@ -20,6 +21,13 @@ tables (suc n) h = absurd (omega (arith, h))
 pub returns-clause-at_end : goal.returns-clause-at_end
 returns-clause-at_end c =
     let run = sync_shows (Refuses clash) in
+    let behind : IsClashBehind run 0 (record nothing_seen { fed = 2 }) clash = record {
+      events = 2;
+      within = lit≤ tt;
+      is_clash = clash_after run 2;
+      newest = lit≤ tt;
+      stops = refl;
+    } in
     record {
       journal = record { owned = refl; each = (refl, tt) };
       tables = tables;
@@ -28,13 +36,13 @@ returns-clause-at_end c =
         all = λ h. let some : true ≡ false = sym (ap is_some (final_is run)) ∙ h in absurd (cc);
       };
       seen = refl;
-      refusals = (λ h. tt, (λ h. tt, (λ h. (2, clash_after run 2), tt)));
-      enough = subst (λ clash. 0 + last_syncs clash ≤ 0) (sym (final_is run)) (lit≤ tt);
+      refusals = ((λ h. tt, (λ h. tt, (λ h. behind, tt))), tt);
+      apart = apart_by run (Some clash) (final_is run) (lit≤ tt) refl;
     }
 
 pub returns-clause-turned : goal.returns-clause-turned
 returns-clause-turned c legal =
-    let named = legal.refusals.1.1.0 refl in never_turned named.0 named.1
+    let named = legal.refusals.0.1.1.0 refl in never_turned named.events named.is_clash
 
 -- ---- Before the clash has passed
 
@@ -46,15 +54,21 @@ tables_before (suc (suc zero)) h = clash_is refused_before 2
 tables_before (suc (suc (suc n))) h = absurd (omega (arith, h))
 
 pub returns-clause-before : goal.returns-clause-before
-returns-clause-before c = record {
-  journal = record { owned = refl; each = (refl, tt) };
-  tables = tables_before;
-  covered = record { within = lit≤ tt; all = λ h. refl };
-  seen = refl;
-  refusals =
-      (λ h. tt, (λ h. tt, (λ h. (2, clash_after refused_before 2), (λ h. tt, (λ h. tt, tt)))));
-  enough = subst (λ clash. 1 + last_syncs clash ≤ 2) (sym (final_is refused_before)) (lit≤ tt);
-}
+returns-clause-before c =
+    let behind : IsClashBehind refused_before 0 (record nothing_seen { fed = 2 }) clash = record {
+      events = 2;
+      within = lit≤ tt;
+      is_clash = clash_after refused_before 2;
+      newest = lit≤ tt;
+      stops = refl;
+    } in record {
+      journal = record { owned = refl; each = (refl, tt) };
+      tables = tables_before;
+      covered = record { within = lit≤ tt; all = λ h. refl };
+      seen = refl;
+      refusals = ((λ h. tt, (λ h. tt, (λ h. behind, (λ h. tt, (λ h. tt, tt))))), tt);
+      apart = apart_by refused_before None (final_is refused_before) (lit≤ tt) refl;
+    }
 
 pub returns-clause-prints : goal.returns-clause-prints
 unfolding digits

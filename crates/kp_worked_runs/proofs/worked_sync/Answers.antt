@@ -1,8 +1,9 @@
-use Rattle.std.proofs.Common.{◌≤◌, ◌+◌, ℕ, zero, suc, [], ◌∷◌, ◌++◌, codes, refl, sym, subst, lit≤, arith}
+use Rattle.std.proofs.Common.{◌≤◌, ℕ, zero, suc, [], ◌∷◌, ◌++◌, codes, refl, lit≤, arith, None}
 use Rattle.std.specs.Fmt.{digits}
-use Rattle.kp_run_defs.specs.LegalRuns.{HasTable, last_syncs}
+use Rattle.kp_run_defs.specs.LegalRuns.{HasTable}
 use Rattle.kp_worked_runs.specs.Printed.{nat_of_one, filter_with}
 use Rattle.kp_worked_runs.specs.Runs.{synced}
+use Rattle.kp_run_defs.proofs.Apart.{apart_by}
 use Rattle.kp_worked_runs.proofs.ByLists.{clash_is, final_is, prints}
 use Rattle.kp_worked_runs.proofs.worked_sync.Goals as goal
 
@@ -19,8 +20,8 @@ returns-clause-legal c = record {
   tables = tables;
   covered = record { within = lit≤ tt; all = λ h. refl };
   seen = refl;
-  refusals = (λ h. tt, (λ h. tt, (λ h. tt, (λ h. tt, tt))));
-  enough = subst (λ clash. 1 + last_syncs clash ≤ 2) (sym (final_is synced)) (lit≤ tt);
+  refusals = ((λ h. tt, (λ h. tt, (λ h. tt, (λ h. tt, tt)))), tt);
+  apart = apart_by synced None (final_is synced) (lit≤ tt) refl;
 }
 
 pub returns-clause-prints : goal.returns-clause-prints
