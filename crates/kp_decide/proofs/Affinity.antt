@@ -113,7 +113,8 @@ module _ (changes : Bool) (name : Endpoint → List ℕ) (source : AddressParts)
       ∙ ap (λ xs. live_endpoint name source now seconds place xs w.left) (drop_at es place e at)
       ∙ ap (λ b. cond b (record { found = Some (e, place); lists = gone w.left e }) (live_endpoint name source now seconds (suc place) (drop (suc place) es) (gone w.left e))) (w.alike (name e))
 
-same_both : {X : Type 0} (b : Bool) (x : X) → x ≡ cond b x x
+-- the same in both cases
+pub same_both : {X : Type 0} (b : Bool) (x : X) → x ≡ cond b x x
 same_both true x = refl
 same_both false x = refl
 

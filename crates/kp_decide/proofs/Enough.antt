@@ -19,12 +19,14 @@ use Rattle.kp_object_defs.specs.OwnKeys.{AreUnderOwnKeys}
 use Rattle.kp_object_defs.specs.PortInfo.{PortInfo, info_of, port_infos}
 use Rattle.kp_object_defs.specs.PortByKey.{info_at, info_in, port_keys, port_keys_of, port_named}
 use Rattle.kp_object_laws.proofs.PortByKey.{infos_by_keys, sources_service}
-use Rattle.kp_door_defs.specs.Doors.{address_doors, fits, node_door, takes}
+use Rattle.kp_door_defs.specs.Doors.{address_doors, fits, node_door}
 use Rattle.kp_door_defs.specs.Filter.{Forward, Hook, Input, Line, Output, external_lines, firewall_lines, hook_lines, hooks_of, service_lines}
 use Rattle.kp_store.specs.Destinations.{answers, port_answers}
 use Rattle.kp_decide.specs.Enough.{AreEnough}
-use Rattle.kp_decide.proofs.FirstFound.{found_in, narrowed, same_append}
+use Rattle.kp_decide.specs.Findings.{fitting_doors}
+use Rattle.kp_decide.proofs.FittingDoors.{same_taking}
 use Rattle.kp_decide.proofs.KeptNames.{is_kept, keys_are, passes_in}
+use Rattle.kp_decide.proofs.Passing.{found_in, narrowed, same_append, same_found}
 use Rattle.kp_decide.proofs.Missed.{Shows, no_address_door, no_external, no_firewall, no_node_door, no_service, shown_of}
 
 module _ (family : Family) (config : FamilyConfig) (o : Objects) (own : AreUnderOwnKeys o) (packet : Packet) where
@@ -60,44 +62,49 @@ module _ (family : Family) (config : FamilyConfig) (o : Objects) (own : AreUnder
       filter_map (info_at family config o)
       (distinct_in_order port_key_cmp (flat_map port_keys_of (filter may_answer (finite.values o.services))))
 
-  same_find : {D : Type 0} (p : D → Bool) (f : PortInfo → List D) → ((i : PortInfo) → Missed i → find p (f i) ≡ None) → find p (flat_map f some_infos) ≡ find p (flat_map f (port_infos family config o))
-  same_find p f none =
-      ap (λ keys. find p (flat_map f (filter_map (info_at family config o) keys))) (keys_are o own may_answer)
+  same_passing : {D : Type 0} (p : D → Bool) (f : PortInfo → List D) → ((i : PortInfo) → Missed i → filter p (f i) ≡ []) → filter p (flat_map f some_infos) ≡ filter p (flat_map f (port_infos family config o))
+  same_passing p f none =
+      ap (λ keys. filter p (flat_map f (filter_map (info_at family config o) keys))) (keys_are o own may_answer)
       ∙ narrowed p f (info_at family config o) (is_kept o own may_answer) (λ key i misses known. none i (missed key i misses known)) (port_keys o)
-      ∙ ap (λ is. find p (flat_map f is)) (sym (infos_by_keys family config o own))
+      ∙ ap (λ is. filter p (flat_map f is)) (sym (infos_by_keys family config o own))
 
   abbrev fit : Line → Bool
   fit l = fits config.addresses packet l.door
 
-  firewalls : find fit (flat_map firewall_lines some_infos) ≡ find fit (flat_map firewall_lines (port_infos family config o))
-  firewalls = same_find fit firewall_lines (λ i m. no_firewall family config packet m.service m.port i m.shows m.miss)
+  firewalls : filter fit (flat_map firewall_lines some_infos) ≡ filter fit (flat_map firewall_lines (port_infos family config o))
+  firewalls = same_passing fit firewall_lines (λ i m. no_firewall family config packet m.service m.port i m.shows m.miss)
 
-  externals : find fit (flat_map external_lines some_infos) ≡ find fit (flat_map external_lines (port_infos family config o))
-  externals = same_find fit external_lines (λ i m. no_external family config packet m.service m.port i m.shows m.miss)
+  externals : filter fit (flat_map external_lines some_infos) ≡ filter fit (flat_map external_lines (port_infos family config o))
+  externals = same_passing fit external_lines (λ i m. no_external family config packet m.service m.port i m.shows m.miss)
 
-  services : find fit (flat_map service_lines some_infos) ≡ find fit (flat_map service_lines (port_infos family config o))
-  services = same_find fit service_lines (λ i m. no_service family config packet m.service m.port i m.shows m.miss)
+  services : filter fit (flat_map service_lines some_infos) ≡ filter fit (flat_map service_lines (port_infos family config o))
+  services = same_passing fit service_lines (λ i m. no_service family config packet m.service m.port i m.shows m.miss)
 
-  from_outside : find fit (flat_map firewall_lines some_infos ++ flat_map external_lines some_infos) ≡ find fit (flat_map firewall_lines (port_infos family config o) ++ flat_map external_lines (port_infos family config o))
+  from_outside : filter fit (flat_map firewall_lines some_infos ++ flat_map external_lines some_infos) ≡ filter fit (flat_map firewall_lines (port_infos family config o) ++ flat_map external_lines (port_infos family config o))
   from_outside = same_append fit (flat_map firewall_lines some_infos) (flat_map external_lines some_infos) (flat_map firewall_lines (port_infos family config o)) (flat_map external_lines (port_infos family config o)) firewalls externals
 
-  at_hook : (h : Hook) → find fit (hook_lines h some_infos) ≡ find fit (hook_lines h (port_infos family config o))
+  at_hook : (h : Hook) → filter fit (hook_lines h some_infos) ≡ filter fit (hook_lines h (port_infos family config o))
   at_hook Input = from_outside
   at_hook Forward =
       same_append fit (flat_map firewall_lines some_infos ++ flat_map external_lines some_infos) (flat_map service_lines some_infos) (flat_map firewall_lines (port_infos family config o) ++ flat_map external_lines (port_infos family config o)) (flat_map service_lines (port_infos family config o))
       from_outside services
   at_hook Output = same_append fit (flat_map firewall_lines some_infos) (flat_map service_lines some_infos) (flat_map firewall_lines (port_infos family config o)) (flat_map service_lines (port_infos family config o)) firewalls services
 
-  at_hooks : (hs : List Hook) → find fit (flat_map (λ h. hook_lines h some_infos) hs) ≡ find fit (flat_map (λ h. hook_lines h (port_infos family config o)) hs)
+  at_hooks : (hs : List Hook) → filter fit (flat_map (λ h. hook_lines h some_infos) hs) ≡ filter fit (flat_map (λ h. hook_lines h (port_infos family config o)) hs)
   at_hooks [] = refl
   at_hooks (h ∷ hs) = same_append fit (hook_lines h some_infos) (flat_map (λ h. hook_lines h some_infos) hs) (hook_lines h (port_infos family config o)) (flat_map (λ h. hook_lines h (port_infos family config o)) hs) (at_hook h) (at_hooks hs)
+
+  fitting : fitting_doors config some_infos packet ≡ fitting_doors config (port_infos family config o) packet
+  fitting =
+      let p = fits config.addresses packet in
+      same_append p (flat_map address_doors some_infos) (flat_map (λ i. node_door i i.node_port) some_infos) (flat_map address_doors (port_infos family config o)) (flat_map (λ i. node_door i i.node_port) (port_infos family config o))
+      (same_passing p address_doors (λ i m. no_address_door family config packet m.service m.port i m.shows m.miss))
+      (same_passing p (λ i. node_door i i.node_port) (λ i m. no_node_door family config packet m.service m.port i m.shows m.miss))
 
   -- these are enough to decide the packet
   pub enough : AreEnough config packet some_infos (port_infos family config o)
   enough = record {
-    door =
-        same_append (takes config packet) (flat_map address_doors some_infos) (flat_map (λ i. node_door i i.node_port) some_infos) (flat_map address_doors (port_infos family config o)) (flat_map (λ i. node_door i i.node_port) (port_infos family config o))
-        (same_find (takes config packet) address_doors (λ i m. no_address_door family config packet m.service m.port i m.shows m.miss))
-        (same_find (takes config packet) (λ i. node_door i i.node_port) (λ i m. no_node_door family config packet m.service m.port i m.shows m.miss));
-    line = at_hooks (hooks_of config packet);
+    fitting = fitting;
+    door = same_taking config packet some_infos (port_infos family config o) fitting;
+    line = same_found fit (flat_map (λ h. hook_lines h some_infos) (hooks_of config packet)) (flat_map (λ h. hook_lines h (port_infos family config o)) (hooks_of config packet)) (at_hooks (hooks_of config packet));
   }

@@ -2,8 +2,10 @@ pub mod Affinity
 pub mod Cases
 pub mod DoorsInPlace
 pub mod Enough
-pub mod FirstFound
+pub mod FittingDoors
 pub mod FoundSoFar
 pub mod KeptNames
 pub mod LeftLists
 pub mod Missed
+pub mod Passing
+pub mod Refused

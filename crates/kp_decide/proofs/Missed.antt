@@ -1,6 +1,6 @@
 -- A port that a packet can't be for gives it no door and no line.
-use Rattle.std.proofs.Common.{◌≡◌, ℕ, ◌==◌, ◌&&◌, ◌||◌, Bool, true, false, true≢false, cond, not, List, [], ◌∷◌, ◌++◌, map, filter, Contains, Option, Some, None, option_and_then, option_map, is_some, refl, sym, ap, subst, ◌∙◌}
-use Rattle.std.specs.List.{find, list_any}
+use Rattle.std.proofs.Common.{◌≡◌, ℕ, ◌==◌, ◌&&◌, ◌||◌, Bool, true, false, true≢false, cond, List, [], ◌∷◌, ◌++◌, map, filter, Contains, Option, Some, None, option_and_then, option_map, is_some, refl, sym, ap, subst, ◌∙◌}
+use Rattle.std.specs.List.{list_any}
 use Rattle.std.specs.Option.{option_to_list}
 use Rattle.std.proofs.lemmas.Bool.{and_from, and_parts, or_from, or_left, or_parts, or_right, false_from_ne_true}
 use Rattle.std.proofs.lemmas.Option.{same_Some}
@@ -22,12 +22,12 @@ use Rattle.kp_types.specs.declared.service.ClusterAddress.TheVariants.{Absent, H
 use Rattle.kp_object_defs.specs.Desired.{address_in, is_empty, is_external_name}
 use Rattle.kp_object_defs.specs.Entries.{entries_from}
 use Rattle.kp_object_defs.specs.PortInfo.{PortInfo, address_at, addresses_in, balancer_in, balancer_of, cluster_address_in, cluster_of_family, external_in, external_list, external_of, has_balancer, has_node_port, info_from, info_of, internal_list, node_port_of, port_key_of}
-use Rattle.kp_door_defs.specs.Doors.{Door, address_doors, door_at, fits, is_at, node_door, offer_of, takes}
+use Rattle.kp_door_defs.specs.Doors.{Door, address_doors, door_at, fits, is_at, node_door}
 use Rattle.kp_door_defs.specs.Filter.{DropsClosed, Line, Refusal, external_lines, firewall_lines, line_of, refusal_by, service_lines}
 use Rattle.kp_object_laws.proofs.FirstPlaces.{from_places}
 use Rattle.kp_store.specs.Destinations.{addresses_at, cluster_addresses, has_address, is_address_of, is_node_port, port_answers}
 use Rattle.kp_store.proofs.Selected.{in_family}
-use Rattle.kp_decide.proofs.FirstFound.{none_both, none_found, none_mapped, none_used}
+use Rattle.kp_decide.proofs.Passing.{none_both, none_left, none_mapped, none_used}
 
 -- an address of a family that is listed is listed
 listed : (family : Family) (target x : AddressParts) (xs : List AddressParts) → Contains (addresses_in family xs) x → same_address x target ≡ true → has_address target xs ≡ true
@@ -159,25 +159,18 @@ module _ (family : Family) (config : FamilyConfig) (packet : Packet) (s : Servic
   pub misses_addresses : list_any fitting (address_doors i) ≡ false
   misses_addresses = or_from (fitting (door_at door.Cluster i i.address)) (list_any fitting (map (door_at door.External i) i.external ++ map (door_at door.Balancer i) i.balancer)) misses_cluster (none_both fitting (map (door_at door.External i) i.external) (map (door_at door.Balancer i) i.balancer) misses_external misses_balancer)
 
-  none_taken : (ds : List Door) → list_any fitting ds ≡ false → find (takes config packet) ds ≡ None
-  none_taken [] h = refl
-  none_taken (d ∷ ds) h =
-      let parts = or_parts (fitting d) (list_any fitting ds) h in
-      ap (λ b. cond (b && not (is_empty (offer_of config packet d).endpoints)) (Some d) (find (takes config packet) ds)) parts.0
-      ∙ none_taken ds parts.1
-
   lined : (refusal : Refusal) (ds : List Door) → list_any fitting ds ≡ false → list_any (λ (l : Line). fitting l.door) (map (line_of refusal) ds) ≡ false
   lined refusal ds h = none_mapped (λ (l : Line). fitting l.door) (line_of refusal) ds (λ d c. none_passes fitting d ds h c)
 
-  pub no_address_door : find (takes config packet) (address_doors i) ≡ None
-  no_address_door = none_taken (address_doors i) misses_addresses
+  pub no_address_door : filter fitting (address_doors i) ≡ []
+  no_address_door = none_left fitting (address_doors i) misses_addresses
 
-  pub no_node_door : find (takes config packet) (node_door i i.node_port) ≡ None
-  no_node_door = none_taken (node_door i i.node_port) (misses_node i.node_port refl)
+  pub no_node_door : filter fitting (node_door i i.node_port) ≡ []
+  no_node_door = none_left fitting (node_door i i.node_port) (misses_node i.node_port refl)
 
-  pub no_firewall : find (λ (l : Line). fitting l.door) (firewall_lines i) ≡ None
+  pub no_firewall : filter (λ (l : Line). fitting l.door) (firewall_lines i) ≡ []
   no_firewall =
-      none_found (λ (l : Line). fitting l.door) (firewall_lines i)
+      none_left (λ (l : Line). fitting l.door) (firewall_lines i)
       (none_used (λ (l : Line). fitting l.door) (is_some i.ranges && i.lists.has_any) (map (λ a. line_of DropsClosed (door_at door.Balancer i a)) i.balancer)
       (none_mapped (λ (l : Line). fitting l.door) (λ a. line_of DropsClosed (door_at door.Balancer i a)) i.balancer
       (λ a c. none_passes (λ b. fitting (door_at door.Balancer i b)) a i.balancer (unmapped i.balancer misses_balancer) c)))
@@ -188,18 +181,18 @@ module _ (family : Family) (config : FamilyConfig) (packet : Packet) (s : Servic
           let parts = or_parts (fitting (door_at door.Balancer i a)) (list_any fitting (map (door_at door.Balancer i) xs)) h in
           or_from (fitting (door_at door.Balancer i a)) (list_any (λ b. fitting (door_at door.Balancer i b)) xs) parts.0 (unmapped xs parts.1)
 
-  pub no_external : find (λ (l : Line). fitting l.door) (external_lines i) ≡ None
+  pub no_external : filter (λ (l : Line). fitting l.door) (external_lines i) ≡ []
   no_external =
       let doors = map (door_at door.External i) i.external ++ map (door_at door.Balancer i) i.balancer ++ node_door i i.node_port in
-      none_found (λ (l : Line). fitting l.door) (external_lines i)
+      none_left (λ (l : Line). fitting l.door) (external_lines i)
       (none_used (λ (l : Line). fitting l.door) (is_empty (external_list i)) (map (line_of (refusal_by i.lists.has_any)) doors)
       (lined (refusal_by i.lists.has_any) doors
       (none_both fitting (map (door_at door.External i) i.external ++ map (door_at door.Balancer i) i.balancer) (node_door i i.node_port)
       (none_both fitting (map (door_at door.External i) i.external) (map (door_at door.Balancer i) i.balancer) misses_external misses_balancer)
       (misses_node i.node_port refl))))
 
-  pub no_service : find (λ (l : Line). fitting l.door) (service_lines i) ≡ None
+  pub no_service : filter (λ (l : Line). fitting l.door) (service_lines i) ≡ []
   no_service =
-      none_found (λ (l : Line). fitting l.door) (service_lines i)
+      none_left (λ (l : Line). fitting l.door) (service_lines i)
       (none_used (λ (l : Line). fitting l.door) (is_empty (internal_list i)) (line_of (refusal_by i.lists.has_any) (door_at door.Cluster i i.address) ∷ [])
       (or_from (fitting (door_at door.Cluster i i.address)) false misses_cluster refl))

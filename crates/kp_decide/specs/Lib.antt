@@ -1,4 +1,5 @@
 pub mod Enough
+pub mod Findings
 pub mod Listed
 pub mod Looked
 pub mod Picks

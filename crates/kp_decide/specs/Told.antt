@@ -1,13 +1,10 @@
 -- What is told of a translation and of a decision, which leave recent lists behind too.
-use Rattle.std.specs.Prelude.{suc, length}
-use Rattle.kp_types.specs.Setting.{FamilyConfig}
-use Rattle.kp_types.specs.declared.packet.Packet.{Packet}
+use Rattle.std.specs.Prelude.{suc, Bool, length}
 use Rattle.kp_types.specs.declared.decision.Decision.{Decision}
 use Rattle.kp_types.specs.declared.decision.Reason.TheVariants as reason
 use Rattle.kp_types.specs.declared.verdict.Verdict.TheVariants.{To}
 use Rattle.kp_door_defs.specs.Choice.{Chosen}
 use Rattle.kp_door_defs.specs.Decision as definition
-use Rattle.kp_door_defs.specs.Marks.{is_masqueraded}
 use Rattle.kp_decide.specs.declared.choice.Choice.{Choice}
 use Rattle.kp_decide.specs.declared.translation.Translation.{Translation}
 
@@ -23,9 +20,9 @@ translation_told t = record { door = t.door; offer = t.offer; choice = choice_of
 abbrev pub told : definition.Decided → Decision
 told d = record { verdict = d.verdict; reason = d.reason }
 
--- the decision on a packet that is translated, and that the filter lets pass
-abbrev pub passed_by : FamilyConfig → Packet → Translation → Decision
-passed_by config packet t = record {
-  verdict = To t.choice.endpoint (is_masqueraded config t.door.kind t.door.info packet t.choice.endpoint);
+-- the decision on a packet that is translated, masqueraded or not, and that the filter lets pass
+abbrev pub passed_by : Translation → Bool → Decision
+passed_by t masked = record {
+  verdict = To t.choice.endpoint masked;
   reason = reason.Door t.door.kind t.door.info.key t.offer.kind (length t.offer.endpoints) t.choice.by t.choice.place;
 }

@@ -1,7 +1,8 @@
 //! How recent lists are looked at: they are only read, or changed as decisions leave them.
-ghost use Rattle.std.specs.Prelude.{◌≡◌, Bool, cond, OnErr, OnOk};
+ghost use Rattle.std.specs.Prelude.{◌≡◌, Bool, true, cond, IsOk, OnErr, OnOk};
 ghost use Rattle.kp_choice_defs.specs.Recent as recent;
 ghost use Rattle.kp_choice_defs.specs.Recent.{RecentParts, reaped, set_at};
+ghost use Rattle.kp_decide.specs.Looked.{has_source};
 
 use kp_base::{Address, NoMemory};
 use kp_recent::RecentLists;
@@ -27,11 +28,13 @@ pub trait Looks {
         ensures lists { lists self.new ≡ cond changes
             (reaped (lists self.old) list.now source.now now seconds) (lists self.old) };
 
-    /// Sets the source in the list, where lists are changed. Without memory nothing changes.
+    /// Sets the source in the list, where lists are changed. Without memory nothing changes. A
+    /// source that the list has needs none.
     fn set(&mut self, list: &ChainName, source: &Address, now: u64) -> Result<(), NoMemory>
         ensures ok { OnOk result (lists self.new ≡ cond changes
             (set_at (lists self.old) list.now source.now now) (lists self.old)) }
-        ensures err { OnErr result (lists self.new ≡ lists self.old) };
+        ensures err { OnErr result (lists self.new ≡ lists self.old) }
+        ensures known { has_source (lists self.old) list.now source.now ≡ true → IsOk result };
 }
 
 /// Lists that stay as they are.

@@ -28,6 +28,7 @@ pub struct ObjectPorts<'a> {
 }
 
 impl<'a> PortSource for ObjectPorts<'a> {
+    ghost use Rattle.std.specs.Prelude.{true};
     ghost use Rattle.kp_types.specs.Setting.{config_for};
     ghost use Rattle.kp_object_defs.specs.PortInfo.{port_infos};
 
@@ -36,6 +37,8 @@ impl<'a> PortSource for ObjectPorts<'a> {
     ghost infos = { λ s family. port_infos family (config_for family s.config.now) s.objects.now };
 
     ghost config = { λ s. s.config.now };
+
+    ghost refuses = { true };
 
     fn config(&self) -> &Config {
         self.config

@@ -97,7 +97,7 @@ pub fn offer_by_policy(info: &PortInfo, policy: Policy) -> Offer<'_>
 }
 
 /// Whether a source is in the ranges, if there are any.
-fn is_admitted(ranges: &Option<Items<Cidr>>, source: &Address) -> bool
+pub fn is_admitted(ranges: &Option<Items<Cidr>>, source: &Address) -> bool
     ensures { result ≡ spec.is_admitted ranges.now source.now }
 {
     match ranges {

@@ -1,5 +1,5 @@
 //! Where what is known of the ports at a destination comes from.
-ghost use Rattle.std.specs.Prelude.{◌≡◌, ◌<◌, ℕ, List, length, slice_get, Some, IfOk};
+ghost use Rattle.std.specs.Prelude.{◌≡◌, ◌<◌, ℕ, Bool, true, List, length, slice_get, Some, IfOk, OnErr};
 ghost use Rattle.kp_base.specs.declared.address.Family.{Family};
 ghost use Rattle.kp_base.specs.declared.config.Config.{Config};
 ghost use Rattle.kp_types.specs.Setting.{config_for};
@@ -55,11 +55,15 @@ pub trait PortSource {
     /// The configuration under which it is known.
     ghost config: { Self → Config };
 
+    /// It may have no memory for the ports at a destination.
+    ghost refuses: { Bool };
+
     /// The configuration under which it is known.
     fn config(&self) -> &Config
         ensures { result.now ≡ config self.now };
 
-    /// Ports that are enough to decide a packet. Only memory can be refused.
+    /// Ports that are enough to decide a packet. Only memory can be refused, and by a source that
+    /// makes ports alone.
     fn ports_at(
         &self,
         alloc: Global,
@@ -69,5 +73,6 @@ pub trait PortSource {
         ensures enough { IfOk result (λ row. AreEnough (config_for family (config self.now))
             packet.entry.now (Self.Row.infos row) (infos self.now family)) }
         ensures names { IfOk result (λ row. Self.Row.name_length row
-            ≡ (config self.now).name_length) };
+            ≡ (config self.now).name_length) }
+        ensures refused { OnErr result (refuses ≡ true) };
 }

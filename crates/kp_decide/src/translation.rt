@@ -4,7 +4,7 @@ ghost use Rattle.std.specs.Prelude.{IfNone, IfSome, OnErr, OnOk};
 ghost use Rattle.kp_choice_defs.specs.Names.{endpoint_chain_name};
 ghost use Rattle.kp_choice_defs.specs.Settings.{setting_of};
 ghost use Rattle.kp_door_defs.specs.Decision as spec;
-ghost use Rattle.kp_decide.specs.Looked.{IsPlaced, looked_among, looked_at, set_if};
+ghost use Rattle.kp_decide.specs.Looked.{IsPlaced, IsNewAt, looked_among, looked_at, set_if};
 ghost use Rattle.kp_decide.specs.Picks.{with_pick};
 ghost use Rattle.kp_decide.specs.Told.{translation_told};
 
@@ -117,7 +117,7 @@ fn translation_at<'a, R: PortRow, P: Picker, L: Looks>(
 }
 
 /// Sets a packet's source in the recent list of the endpoint that it goes to, where its port has
-/// affinity and lists are changed. Without memory nothing changes.
+/// affinity and lists are changed. Without memory nothing changes, and the list lacks the source.
 pub fn remember<R: PortRow, L: Looks>(
     ports: &R,
     packet: &Packet,
@@ -131,6 +131,8 @@ pub fn remember<R: PortRow, L: Looks>(
         placed.now.translation.choice.endpoint)
         packet.entry.now.source packet.entry.now.now (L.lists lists.old)) (L.lists lists.old)) }
     ensures err { OnErr result (L.lists lists.new ≡ L.lists lists.old) }
+    ensures set { OnErr result (IsNewAt L.changes (R.name_length ports.now)
+        placed.now.translation packet.entry.now.source (L.lists lists.old)) }
 {
     let Translation {
         door,

@@ -6,10 +6,10 @@ use Rattle.kp_decide.proofs.Cases.{of_none}
 use Rattle.kp_decide.proofs.tellers.AsDecisionTeller.tell.Goals as goal
 
 -- neither a translation nor a line
-pub returns-in-None-None : goal.returns-in-None-None
-returns-in-None-None c t lists is =
-    let config = config_for c.args.family c.args.config.now in
-    let packet = c.args.packet.now in
+pub returns-in-None-None-clause-told : goal.returns-in-None-None-clause-told
+returns-in-None-None-clause-told g c t lists fitting is masked fits =
+    let config = config_for c.args._family c.args._config.now in
+    let packet = c.args._packet.now in
     of_none (λ u. c.left_alone.result ≡ told (by_filter config packet u lists c.args.found.now.line)) t
     (sym (ap (option_map (λ x. x.now)) c.in-None-None.is-1) ∙ is)
     (c.left_alone.ensures lists ∙ ap (λ l. told (by_filter config packet None lists l)) (sym c.in-None-None.is-0))
