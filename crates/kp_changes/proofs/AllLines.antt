@@ -28,7 +28,7 @@ use Rattle.kp_change_defs.specs.DoorChanges.{door_changes, names_of}
 use Rattle.kp_changes.specs.Lines.{dirty_in, dirty_lines, dirty_named, dirty_text, lines_named, lines_of}
 use Rattle.kp_changes.proofs.Doors.{unchanged}
 use Rattle.kp_changes.proofs.Pieces.{alike}
-use Rattle.kp_changes.proofs.Sparse.{found_name, sparse, told_in}
+use Rattle.kp_port_by_key.proofs.Sparse.{found_name, sparse, told_in}
 
 -- ---- A port by its name
 

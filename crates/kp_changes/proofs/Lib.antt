@@ -5,4 +5,3 @@ pub mod Pieces
 pub mod PortLines
 pub mod SameCrowd
 pub mod Shown
-pub mod Sparse

@@ -57,7 +57,7 @@ use Rattle.kp_changes.specs.Neighbours.{crowd_text, destination_of, is_at, is_ot
 use Rattle.kp_changes.specs.declared.neighbour.Destination.{Destination}
 use Rattle.kp_changes.specs.declared.neighbour.Neighbour.{Neighbour}
 use Rattle.kp_changes.proofs.Pieces.{alike, inner, passed}
-use Rattle.kp_changes.proofs.Sparse.{sparse, told_in}
+use Rattle.kp_port_by_key.proofs.Sparse.{sparse, told_in}
 
 -- a protocol is itself
 proto_itself : (p : Proto) → same_proto p p ≡ true

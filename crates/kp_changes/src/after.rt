@@ -1,6 +1,6 @@
 //! What a sync led to, with the doors at destinations where many ports may have one: these are
 //! found once, however many lines ask for them.
-ghost use Rattle.std.specs.Prelude.{◌≡◌, IfSome};
+ghost use Rattle.std.specs.Prelude.{◌≡◌, [], IfSome, OnErr, OnOk, option_map};
 ghost use Rattle.kp_changes.specs.After as spec;
 
 use crate::neighbour::{Destination, Neighbour};
@@ -26,7 +26,10 @@ impl<'a> Model for After<'a> {
 
     ghost coded = { spec.after_code };
 
-    ghost view = { λ a. record { config = a.config.now; objects = a.objects.now } };
+    ghost view = { λ a. record {
+      synced = record { config = a.config.now; objects = a.objects.now };
+      crowds = a.crowds.entries;
+    } };
 
     ghost invariant = { λ a. spec.AreRight
         (record { config = a.config.now; objects = a.objects.now }) a.crowds.entries };
@@ -35,7 +38,10 @@ impl<'a> Model for After<'a> {
 impl<'a> After<'a> {
     /// What a sync led to, before a door was found.
     pub fn new(alloc: Global, config: &'a Config, objects: &'a Objects) -> After<'a>
-        ensures { result ≡ record { config = config.now; objects = objects.now } }
+        ensures { result ≡ record {
+          synced = record { config = config.now; objects = objects.now };
+          crowds = [];
+        } }
     {
         After {
             config,
@@ -46,21 +52,23 @@ impl<'a> After<'a> {
 
     /// The setting.
     pub fn config(&self) -> &'a Config
-        ensures { result.now ≡ self.now.config }
+        ensures { result.now ≡ self.now.synced.config }
     {
         self.config
     }
 
     /// The objects.
     pub fn objects(&self) -> &'a Objects
-        ensures { result.now ≡ self.now.objects }
+        ensures { result.now ≡ self.now.synced.objects }
     {
         self.objects
     }
 
     /// The doors at a destination, where they are kept.
     pub fn crowd(&self, at: &Destination) -> Option<&[Neighbour]>
-        ensures { IfSome result (λ crowd. spec.AreThere self.now at.now crowd.now) }
+        ensures kept { option_map (λ crowd. crowd.now) result
+            ≡ spec.kept_at at.now self.now.crowds }
+        ensures there { IfSome result (λ crowd. spec.AreThere self.now.synced at.now crowd.now) }
     {
         match self.crowds.get(at) {
             Some(crowd) => Some(crowd.as_slice()),
@@ -68,10 +76,11 @@ impl<'a> After<'a> {
         }
     }
 
-    /// Keeps the doors at a destination.
+    /// Keeps the doors at a destination. Without memory all stays.
     pub fn keep(&mut self, at: Destination, crowd: Items<Neighbour>) -> Result<(), NoMemory>
-        requires there { spec.AreThere self.old at crowd }
-        ensures { self.new ≡ self.old }
+        requires there { spec.AreThere self.old.synced at crowd }
+        ensures kept { OnOk result (self.new ≡ spec.keeping at crowd self.old) }
+        ensures err { OnErr result (self.new ≡ self.old) }
     {
         self.crowds.insert(at, crowd)?;
         Ok(())

@@ -1,10 +1,11 @@
 //! The doors beside a door: those at its destination, of other ports and of its own.
-ghost use Rattle.std.specs.Prelude.{◌≡◌, ◌++◌, map, length, IfOk, OnErr, OnOk, string_bytes};
+ghost use Rattle.std.specs.Prelude.{◌≡◌, ◌++◌, true, map, length, nat_lt, IfOk, IsSome, OnErr, OnOk, string_bytes};
 ghost use Rattle.std.specs.List.{filter, flat_map};
 ghost use Rattle.kp_object_defs.specs.OwnKeys.{AreUnderOwnKeys};
 ghost use Rattle.kp_print.specs.Fronts.{HasFront};
 ghost use Rattle.kp_change_defs.specs.ChangeText as spec;
-ghost use Rattle.kp_changes.specs.After.{AreThere, crowd_at, infos_in};
+ghost use Rattle.kp_changes.specs.After.{AreThere, crowd_at, infos_in, kept_at};
+ghost use Rattle.kp_changes.specs.Beside as beside;
 ghost use Rattle.kp_changes.specs.Neighbours as neighbours;
 
 use crate::after::After;
@@ -29,9 +30,9 @@ pub fn push_besides(
     door: &Door<'_>,
 ) -> Result<(), NoMemory>
     ensures added { OnOk result (string_bytes text.new ≡ string_bytes text.old
-        ++ spec.besides_text (infos_in family after.old) door.now) }
+        ++ spec.besides_text (infos_in family after.old.synced) door.now) }
     ensures front { OnErr result (HasFront text.new text.old) }
-    ensures same { after.new ≡ after.old }
+    ensures same { after.new.synced ≡ after.old.synced }
 {
     if let Some(crowd) = after.crowd(&destination_of(family, door)) {
         return push_crowd(alloc, text, family, after, door, crowd);
@@ -49,9 +50,12 @@ fn push_found(
     door: &Door<'_>,
 ) -> Result<(), NoMemory>
     ensures added { OnOk result (string_bytes text.new ≡ string_bytes text.old
-        ++ spec.besides_text (infos_in family after.old) door.now) }
+        ++ spec.besides_text (infos_in family after.old.synced) door.now) }
     ensures front { OnErr result (HasFront text.new text.old) }
-    ensures same { after.new ≡ after.old }
+    ensures same { after.new.synced ≡ after.old.synced }
+    ensures kept { OnOk result (
+        nat_lt 3 (length (beside.names_at after.old.synced.objects door.now)) ≡ true
+        → IsSome (kept_at (neighbours.destination_of family door.now) after.new.crowds)) }
 {
     let names = names_at(alloc, after.objects(), door)?;
     let crowd = crowd_of(alloc, family, after, door, names.as_slice())?;
@@ -71,9 +75,9 @@ fn push_crowd(
     door: &Door<'_>,
     crowd: &[Neighbour],
 ) -> Result<(), NoMemory>
-    requires there { AreThere after.now (neighbours.destination_of family door.now) crowd.now }
+    requires there { AreThere after.now.synced (neighbours.destination_of family door.now) crowd.now }
     ensures added { OnOk result (string_bytes text.new ≡ string_bytes text.old
-        ++ spec.besides_text (infos_in family after.now) door.now) }
+        ++ spec.besides_text (infos_in family after.now.synced) door.now) }
     ensures front { OnErr result (HasFront text.new text.old) }
 {
     let more = more_others(alloc, family, after, door, crowd)?;
@@ -108,7 +112,7 @@ fn more_others(
     door: &Door<'_>,
     crowd: &[Neighbour],
 ) -> Result<usize, NoMemory>
-    requires there { AreThere after.now (neighbours.destination_of family door.now) crowd.now }
+    requires there { AreThere after.now.synced (neighbours.destination_of family door.now) crowd.now }
     ensures { IfOk result (λ more. more ≡ neighbours.more_others door.now crowd.now) }
 {
     if crowd.len() <= NAMED {
@@ -126,30 +130,18 @@ fn own_doors(
     after: &After<'_>,
     door: &Door<'_>,
 ) -> Result<usize, NoMemory>
-    requires own_keys { AreUnderOwnKeys after.now.objects }
+    requires own_keys { AreUnderOwnKeys after.now.synced.objects }
     ensures { IfOk result (λ own. own ≡ length (filter (neighbours.is_same door.now)
-        (crowd_at (neighbours.destination_of family door.now) after.now))) }
+        (crowd_at (neighbours.destination_of family door.now) after.now.synced))) }
 {
     let name = [&door.info.key];
     let there = doors_there(alloc, family, after, door, &name[..])?;
-    let same = same_among(alloc, door, there.as_slice())?;
-    Ok(same.as_slice().len())
-}
-
-/// Those of the doors at a door's destination that are the same.
-fn same_among<'a>(
-    alloc: Global,
-    door: &Door<'_>,
-    crowd: &'a [Neighbour],
-) -> Result<Vec<&'a Neighbour>, NoMemory>
-    ensures { IfOk result (λ same. map (λ n. n.now) same.items
-        ≡ filter (neighbours.is_same door.now) crowd.now) }
-{
     Ok(
-        crowd
+        there
+            .as_slice()
             .iter()
             .filter(|other| is_same(door, *other))
-            .collect(alloc)?,
+            .count(),
     )
 }
 

@@ -13,11 +13,11 @@ ghost use Rattle.kp_change_defs.specs.ChangeText.{change_text};
 ghost use Rattle.kp_changes.specs.Lines as spec;
 
 use crate::after::After;
-use crate::infos::info_at;
 use crate::names::{by_name, dirty_named, distinct_names, names_of_both};
 use crate::port::push_port_lines;
 use kp_base::{Config, Family, NoMemory, PortKey};
 use kp_history_defs::DirtyPort;
+use kp_port_by_key::info_at;
 use kp_store::Objects;
 use std::alloc::Global;
 use std::collections::BTreeMap;
@@ -55,9 +55,9 @@ fn push_dirty(
     text: &mut String,
 ) -> Result<(), NoMemory>
     ensures added { OnOk result (string_bytes text.new ≡ string_bytes text.old
-        ++ spec.dirty_text now.old.config now.old.objects four.now six.now) }
+        ++ spec.dirty_text now.old.synced.config now.old.synced.objects four.now six.now) }
     ensures front { OnErr result (HasFront text.new text.old) }
-    ensures same { now.new ≡ now.old }
+    ensures same { now.new.synced ≡ now.old.synced }
 {
     let names = names_of_both(alloc, four, six)?;
     let distinct = distinct_names(alloc, names.as_slice())?;
@@ -79,12 +79,12 @@ fn push_named<'a>(
     text: &mut String,
 ) -> Result<(), NoMemory>
     ensures added { OnOk result (string_bytes text.new ≡ string_bytes text.old
-        ++ (spec.dirty_lines V4 now.old.config now.old.objects
+        ++ (spec.dirty_lines V4 now.old.synced.config now.old.synced.objects
         (find port_key_cmp name.now (map deref_pair four.now.entries))
-        ++ spec.dirty_lines V6 now.old.config now.old.objects
+        ++ spec.dirty_lines V6 now.old.synced.config now.old.synced.objects
         (find port_key_cmp name.now (map deref_pair six.now.entries)))) }
     ensures front { OnErr result (HasFront text.new text.old) }
-    ensures same { now.new ≡ now.old }
+    ensures same { now.new.synced ≡ now.old.synced }
 {
     let (four, six) = (dirty_named(four, name), dirty_named(six, name));
     push_dirty_port(alloc, text, Family::V4, now, four)?;
@@ -100,9 +100,9 @@ fn push_dirty_port(
     dirty: Option<&DirtyPort>,
 ) -> Result<(), NoMemory>
     ensures added { OnOk result (string_bytes text.new ≡ string_bytes text.old
-        ++ spec.dirty_lines family now.old.config now.old.objects (option_copied dirty.entry)) }
+        ++ spec.dirty_lines family now.old.synced.config now.old.synced.objects (option_copied dirty.entry)) }
     ensures front { OnErr result (HasFront text.new text.old) }
-    ensures same { now.new ≡ now.old }
+    ensures same { now.new.synced ≡ now.old.synced }
 {
     let Some(port) = dirty else {
         return Ok(());

@@ -41,10 +41,10 @@ pub fn crowd_of(
     door: &Door<'_>,
     names: &[PortKey],
 ) -> Result<Items<Neighbour>, NoMemory>
-    requires own_keys { AreUnderOwnKeys after.now.objects }
-    requires names { names.now ≡ beside.names_at after.now.objects door.now }
+    requires own_keys { AreUnderOwnKeys after.now.synced.objects }
+    requires names { names.now ≡ beside.names_at after.now.synced.objects door.now }
     ensures { IfOk result (λ crowd.
-        crowd ≡ crowd_at (spec.destination_of family door.now) after.now) }
+        crowd ≡ crowd_at (spec.destination_of family door.now) after.now.synced) }
 {
     let distinct = distinct_names(alloc, names)?;
     doors_there(alloc, family, after, door, distinct.as_slice())
@@ -61,7 +61,7 @@ pub fn doors_there(
     ensures { IfOk result (λ found. found ≡ spec.neighbours_at
         (spec.destination_of family door.now)
         (doors_of (flat_map
-        (beside.bare_infos_at family (config_for family after.now.config) after.now.objects)
+        (beside.bare_infos_at family (config_for family after.now.synced.config) after.now.synced.objects)
         (map (λ k. k.now) names.now)))) }
 {
     let infos = bare_infos(alloc, family, after.config(), after.objects(), names)?;

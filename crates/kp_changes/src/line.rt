@@ -25,10 +25,10 @@ pub fn push_line(
     change: &DoorChange<'_>,
 ) -> Result<(), NoMemory>
     ensures added { OnOk result (string_bytes text.new ≡ string_bytes text.old
-        ++ spec.change_line (chain_name after.old.config.name_length)
-        (infos_in family after.old) change.now) }
+        ++ spec.change_line (chain_name after.old.synced.config.name_length)
+        (infos_in family after.old.synced) change.now) }
     ensures front { OnErr result (HasFront text.new text.old) }
-    ensures same { after.new ≡ after.old }
+    ensures same { after.new.synced ≡ after.old.synced }
 {
     push_head(text, after.config(), &change.door)?;
     push(text, ": ")?;
@@ -61,9 +61,9 @@ fn push_turned(
     change: &DoorChange<'_>,
 ) -> Result<(), NoMemory>
     ensures added { OnOk result (string_bytes text.new ≡ string_bytes text.old
-        ++ spec.turned_text (infos_in family after.old) change.now) }
+        ++ spec.turned_text (infos_in family after.old.synced) change.now) }
     ensures front { OnErr result (HasFront text.new text.old) }
-    ensures same { after.new ≡ after.old }
+    ensures same { after.new.synced ≡ after.old.synced }
 {
     if !turns(change) {
         return Ok(());

@@ -23,10 +23,10 @@ pub fn push_port_lines<'a>(
     after: Option<&'a PortInfo>,
 ) -> Result<(), NoMemory>
     ensures added { OnOk result (string_bytes text.new ≡ string_bytes text.old
-        ++ spec.lines_of family now.old.config now.old.objects
+        ++ spec.lines_of family now.old.synced.config now.old.synced.objects
         (doors.door_changes (option_copied before.entry) (option_copied after.entry))) }
     ensures front { OnErr result (HasFront text.new text.old) }
-    ensures same { now.new ≡ now.old }
+    ensures same { now.new.synced ≡ now.old.synced }
 {
     let before = doors_of_port(alloc, before)?;
     let after = doors_of_port(alloc, after)?;
@@ -45,10 +45,10 @@ fn push_there<'a>(
     after: &[Door<'a>],
 ) -> Result<(), NoMemory>
     ensures added { OnOk result (string_bytes text.new ≡ string_bytes text.old
-        ++ flat_map (λ d. spec.line_if family now.old.config now.old.objects
+        ++ flat_map (λ d. spec.line_if family now.old.synced.config now.old.synced.objects
         (doors.change_to before.now d)) after.now) }
     ensures front { OnErr result (HasFront text.new text.old) }
-    ensures same { now.new ≡ now.old }
+    ensures same { now.new.synced ≡ now.old.synced }
 {
     for door in after {
         let change = change_to(before, door);
@@ -67,9 +67,9 @@ fn push_gone<'a>(
     after: &[Door<'a>],
 ) -> Result<(), NoMemory>
     ensures added { OnOk result (string_bytes text.new ≡ string_bytes text.old
-        ++ flat_map (spec.line_if_gone family now.old.config now.old.objects after.now) before.now) }
+        ++ flat_map (spec.line_if_gone family now.old.synced.config now.old.synced.objects after.now) before.now) }
     ensures front { OnErr result (HasFront text.new text.old) }
-    ensures same { now.new ≡ now.old }
+    ensures same { now.new.synced ≡ now.old.synced }
 {
     for door in before {
         push_if_gone(alloc, text, family, now, after, door)?;
@@ -87,9 +87,9 @@ fn push_if_gone(
     door: &Door<'_>,
 ) -> Result<(), NoMemory>
     ensures added { OnOk result (string_bytes text.new ≡ string_bytes text.old
-        ++ spec.line_if_gone family now.old.config now.old.objects after.now door.now) }
+        ++ spec.line_if_gone family now.old.synced.config now.old.synced.objects after.now door.now) }
     ensures front { OnErr result (HasFront text.new text.old) }
-    ensures same { now.new ≡ now.old }
+    ensures same { now.new.synced ≡ now.old.synced }
 {
     if has_door(after, door) {
         return Ok(());
@@ -107,9 +107,9 @@ fn push_if_differs(
     change: &DoorChange<'_>,
 ) -> Result<(), NoMemory>
     ensures added { OnOk result (string_bytes text.new ≡ string_bytes text.old
-        ++ spec.line_if family now.old.config now.old.objects change.now) }
+        ++ spec.line_if family now.old.synced.config now.old.synced.objects change.now) }
     ensures front { OnErr result (HasFront text.new text.old) }
-    ensures same { now.new ≡ now.old }
+    ensures same { now.new.synced ≡ now.old.synced }
 {
     if !differs(change) {
         return Ok(());

@@ -19,7 +19,7 @@ returns-clause-added c =
     ∙ ap (λ l. string_bytes c.args.text.now ++ l)
     ((λ i. flat_map neighbour_text (first i) ++ more_text (c.in_ok-more.ensures i))
     ∙ ap (crowd_text d) c.requires.there.doors
-    ∙ told_of_crowd family d (infos_in family c.args.after.now)))
+    ∙ told_of_crowd family d (infos_in family c.args.after.now.synced)))
     c.push_more.ensures.added
 
 pub returns-clause-front : goal.returns-clause-front

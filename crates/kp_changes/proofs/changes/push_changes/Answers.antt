@@ -11,7 +11,7 @@ returns-clause-added c before own own_after is_four is_six =
     on_ok_weaker c.push_dirty.result
     (λ added. added
     ∙ (λ i. string_bytes c.args.text.now
-    ++ dirty_text (c.new-now.ensures i).config (c.new-now.ensures i).objects c.args.four.now
+    ++ dirty_text (c.new-now.ensures i).synced.config (c.new-now.ensures i).synced.objects c.args.four.now
     c.args.six.now)
     ∙ ap (λ l. string_bytes c.args.text.now ++ l)
     ((λ i. dirty_text config o (is_four i) (is_six i))

@@ -12,8 +12,8 @@ use Rattle.kp_changes.proofs.changes.push_dirty.Goals as goal
 
 pub loop-name-preserved : goal.loop-name-preserved
 loop-name-preserved c =
-    let config = c.args.now.now.config in
-    let o = c.args.now.now.objects in
+    let config = c.args.now.now.synced.config in
+    let o = c.args.now.now.synced.objects in
     let same = c.loop-name.invariant.same in
     let name = c.name-item.result in
     let four : find port_key_cmp name.now (map deref_pair c.in_ok-four.four.entries)

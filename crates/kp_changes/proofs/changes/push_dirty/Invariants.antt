@@ -8,7 +8,7 @@ abbrev pub invariant-loop-name : goal.invariant-loop-name
 invariant-loop-name l = record {
   text : string_bytes l.text
       ≡ string_bytes l.initial.text
-      ++ flat_map (lines_named l.initial.now.config l.initial.now.objects l.fn.four l.fn.six)
+      ++ flat_map (lines_named l.initial.now.synced.config l.initial.now.synced.objects l.fn.four l.fn.six)
       (map (λ k. k.now) (take l.name-index l.name-items));
-  same : l.now ≡ l.initial.now;
+  same : l.now.synced ≡ l.initial.now.synced;
 }

@@ -12,7 +12,7 @@ use Rattle.kp_changes.proofs.crowd.crowd_of.Goals as goal
 pub returns : goal.returns
 returns c =
     let family = c.args.family in
-    let a = c.args.after.now in
+    let a = c.args.after.now.synced in
     let d = c.args.door.now in
     let config = config_for family a.config in
     let names : map (λ k. k.now) c.as_slice.result.now

@@ -9,8 +9,8 @@ use Rattle.kp_changes.proofs.line.push_line.Goals as goal
 
 pub returns-clause-added : goal.returns-clause-added
 returns-clause-added c =
-    let name_of = chain_name c.args.after.now.config.name_length in
-    let infos = infos_in c.args.family c.args.after.now in
+    let name_of = chain_name c.args.after.now.synced.config.name_length in
+    let infos = infos_in c.args.family c.args.after.now.synced in
     on_ok_weaker c.push-2.result
     (line_added name_of infos _ c.args.change.now c.change.view_is (string_bytes c.args.text.now)
     (string_bytes c.push_head.new.text) (string_bytes c.push.new.text)

@@ -5,7 +5,7 @@ use Rattle.kp_changes.proofs.port.push_gone.Goals as goal
 
 pub loop-door-preserved : goal.loop-door-preserved
 loop-door-preserved c =
-    let start = c.args.now.now in
+    let start = c.args.now.now.synced in
     let same = c.loop-door.invariant.same in
     record {
       text =

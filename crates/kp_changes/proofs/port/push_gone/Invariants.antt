@@ -9,7 +9,7 @@ invariant-loop-door l = record {
   text : string_bytes l.text
       ≡ string_bytes l.initial.text
       ++ flat_map
-      (line_if_gone l.family l.initial.now.config l.initial.now.objects l.after)
+      (line_if_gone l.family l.initial.now.synced.config l.initial.now.synced.objects l.after)
       (take l.door-index l.before);
-  same : l.now ≡ l.initial.now;
+  same : l.now.synced ≡ l.initial.now.synced;
 }

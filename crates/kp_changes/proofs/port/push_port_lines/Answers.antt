@@ -8,7 +8,7 @@ use Rattle.kp_changes.proofs.port.push_port_lines.Goals as goal
 
 pub returns-clause-added : goal.returns-clause-added
 returns-clause-added c =
-    let line = line_of c.args.family c.args.now.now.config c.args.now.now.objects in
+    let line = line_of c.args.family c.args.now.now.synced.config c.args.now.now.synced.objects in
     let olds = c.as_slice-before.result.now in
     let news = c.as_slice-after.result.now in
     let old : olds ≡ doors_of_port (option_copied c.args.before) =

@@ -10,7 +10,7 @@ invariant-loop-door l = record {
   text : string_bytes l.text
       ≡ string_bytes l.initial.text
       ++ flat_map
-      (λ d. line_if l.family l.initial.now.config l.initial.now.objects (change_to l.before d))
+      (λ d. line_if l.family l.initial.now.synced.config l.initial.now.synced.objects (change_to l.before d))
       (take l.door-index l.after);
-  same : l.now ≡ l.initial.now;
+  same : l.now.synced ≡ l.initial.now.synced;
 }
