@@ -3,6 +3,7 @@
 use Rattle.std.proofs.Common.{◌≡◌, ℕ, Bool, true, false, List, [], ◌++◌, ◌||◌, ap, refl, sym, ◌∙◌}
 use Rattle.std.specs.Prelude.{Ok, Err}
 use Rattle.std.specs.List.{concat, list_any}
+use Rattle.std.proofs.Math.Bool.{or-false}
 use Rattle.kp_answers.specs.Walks.{answer_in, walk_in}
 use Rattle.kp_answers.specs.declared.snapshot.Snapshot.{Snapshot}
 use Rattle.kp_choice_defs.specs.Recent.{RecentParts}
@@ -22,7 +23,7 @@ use Rattle.kp_replay.specs.Steps.{Takes, standing_of}
 use Rattle.kp_replay.specs.declared.reads.Read.{Read}
 use Rattle.kp_replay.specs.declared.replay.Replay.{Replay}
 use Rattle.kp_workers.proofs.AnswerLemmas.{answer_in_part}
-use Rattle.kp_replay.proofs.GroupLemmas.{Asides, asides, or_none, with_lists}
+use Rattle.kp_replay.proofs.GroupLemmas.{Asides, asides, with_lists}
 
 -- ---- One part
 
@@ -72,7 +73,7 @@ module _ (r : Replay) (s : Snapshot) (syncs : s.sync ≡ parts.syncs_in r.plane)
         text =
             answer_text number (sym syncs i) line (sym agree.verdict i)
             (sym (walks number line lists) i).trail;
-        next = with_lists (standing_of r) (sym agree.lists i) (sym (or_none refused) i);
+        next = with_lists (standing_of r) (sym agree.lists i) (sym (or-false refused) i);
       }
 
   op_aside : (number : ℕ) (o : Op) → is_packet o ≡ true → (lists : RecentParts) (refused : Bool)
@@ -93,7 +94,7 @@ module _ (r : Replay) (s : Snapshot) (syncs : s.sync ≡ parts.syncs_in r.plane)
         next = with_lists (standing_of r) (step_of_said s number says lists).1 (refused || refuses says);
       }
   said_aside number Nothing h lists refused =
-      λ i. record { text = []; next = with_lists (standing_of r) lists (sym (or_none refused) i) }
+      λ i. record { text = []; next = with_lists (standing_of r) lists (sym (or-false refused) i) }
   said_aside number (Asks line) h lists refused = op_aside number line.op h lists refused
   said_aside number (Refuses refusal) h lists refused = λ i. record {
     text = (step_of_said s number (Refuses refusal) lists).0;

@@ -2,6 +2,7 @@
 use Rattle.std.proofs.Common.{◌≡◌, ℕ, suc, Bool, true, false, ◌||◌, List, [], ◌∷◌, ◌++◌, ap, sym, refl, ◌∙◌, append_assoc}
 use Rattle.std.specs.Prelude.{Some}
 use Rattle.std.specs.List.{concat, list_all, list_any}
+use Rattle.std.proofs.Math.Bool.{or-false}
 use Rattle.std.proofs.lemmas.Bool.{and_parts}
 use Rattle.kp_choice_defs.specs.Recent.{RecentParts}
 use Rattle.kp_run_defs.specs.ReplayText.{Line, Standing, given_line, op_line, refuse, said_line}
@@ -67,10 +68,6 @@ reads_both (x ∷ xs) ys s =
 
 -- ---- Beside each other
 
-pub or_none : (b : Bool) → b || false ≡ b
-or_none true = refl
-or_none false = refl
-
 or_both : (a b c : Bool) → (a || b) || c ≡ a || (b || c)
 or_both true b c = refl
 or_both false b c = refl
@@ -95,7 +92,7 @@ module _ (step : Read → RecentParts → List ℕ × RecentParts) (s : Standing
         next = with_lists s (one_by_one step reads lists).1 (refused || list_any is_refused reads);
       }
   asides one [] all lists refused =
-      λ i. record { text = []; next = with_lists s lists (sym (or_none refused) i) }
+      λ i. record { text = []; next = with_lists s lists (sym (or-false refused) i) }
   asides one (x ∷ xs) all lists refused =
       let first = step x lists in
       let others = one_by_one step xs first.1 in

@@ -22,10 +22,12 @@ impl Replay {
     ghost use Rattle.kp_replay.specs.Steps.{standing_of, place_of, Follows, StaysOrBetween, TookIn};
     ghost use Rattle.kp_replay.specs.Steps.{HasNoEvents, IsReady, LosesNothing, MaySay, MayTake};
 
-    /// Before the first line a mode begins with the default configuration.
+    /// Before the first line a mode begins with the default configuration. Without memory it stays
+    /// as it was.
     pub fn begin_in<M: Mode>(&self, alloc: Global, mode: &mut M) -> Result<(), NoMemory>
         requires { standing_of self.now ≡ spec.beginning }
-        ensures { OnOk result (Follows (M.stands mode.new) (modes.place_at_start M.mode)) }
+        ensures follows { OnOk result (Follows (M.stands mode.new) (modes.place_at_start M.mode)) }
+        ensures stays { OnErr result (mode.new ≡ mode.old) }
     {
         mode.configured(alloc, self.plane.config())
     }

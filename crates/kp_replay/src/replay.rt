@@ -9,7 +9,7 @@ use kp_interner::Interner;
 use kp_mode::Replaying;
 use kp_plane::{JournalFault, Plane};
 use kp_report::push_refusal;
-use kp_script::{LineRefusal, Op, Scratch, default_config};
+use kp_script::{LineRefusal, Scratch, default_config};
 use kp_types::Event;
 use kp_workers::PartLists;
 use std::alloc::Global;
@@ -43,7 +43,7 @@ impl Drop for Replay {
 }
 
 impl Replay {
-    ghost use Rattle.kp_replay.specs.Steps.{standing_of, IsReady, LosesNothing, MayTake, Takes, Took};
+    ghost use Rattle.kp_replay.specs.Steps.{standing_of, IsReady, LosesNothing, Takes, Took};
 
     /// Before the first line, with so many workers for groups of lines.
     pub fn new(alloc: Global, workers: usize) -> Result<Replay, NoMemory>
@@ -85,21 +85,6 @@ impl Replay {
             (standing_of self.new) (string_bytes text.old) (string_bytes text.new) }
     {
         self.take_line_in(alloc, number, given, &mut Replaying, text)
-    }
-
-    /// Does what a line asks for.
-    pub(crate) fn take_op(
-        &mut self,
-        alloc: Global,
-        number: u64,
-        op: Op,
-        text: &mut String,
-    ) -> Result<(), NoMemory>
-        requires { MayTake (standing_of self.old) op }
-        ensures { Took result (spec.op_line number op (standing_of self.old)) (standing_of self.old)
-            (standing_of self.new) (string_bytes text.old) (string_bytes text.new) }
-    {
-        self.take_op_in(alloc, number, op, &mut Replaying, text)
     }
 
     /// Tells that the line is refused.

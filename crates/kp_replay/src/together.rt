@@ -11,7 +11,7 @@ use crate::reads::{Read, Reads, read_lines};
 use crate::replay::Replay;
 use kp_base::NoMemory;
 use kp_gate::Gate;
-use kp_mode::snapshot_of;
+use kp_mode::{Replaying, snapshot_of};
 use kp_script::{Op, Said};
 use std::alloc::Global;
 use std::mem::swap;
@@ -229,7 +229,7 @@ impl Replay {
         let Read { number, said } = read;
         match said? {
             Said::Nothing => Ok(()),
-            Said::Asks(line) => self.take_op(alloc, number, line.op, text),
+            Said::Asks(line) => self.take_op_in(alloc, number, line.op, &mut Replaying, text),
             Said::Refuses(refusal) => self.refuse(alloc, number, &refusal, text),
         }
     }
