@@ -41,7 +41,7 @@ use Rattle.kp_track_laws.specs.StandingLaws.{UdpSent}
 
 -- ---- What a door offers is in its port's lists
 
-abbrev both_lists : PortInfo → List Endpoint
+abbrev pub both_lists : PortInfo → List Endpoint
 both_lists i = i.lists.cluster ++ i.lists.local
 
 in_policy : (i : PortInfo) (p : Policy) (e : Endpoint) → Contains (offer_by_policy i p).endpoints e → Contains (both_lists i) e
@@ -90,20 +90,21 @@ fits_proto node packet d h =
     (and_parts (same_proto d.info.key.proto packet.proto) (d.number == packet.port)
     (and_parts (same_proto d.info.key.proto packet.proto && (d.number == packet.port)) (is_at d.info.address.family node d.address packet.target) h).0).0
 
-itself : (e : Endpoint) → is_endpoint e e ≡ true
+pub itself : (e : Endpoint) → is_endpoint e e ≡ true
 itself e = and_from _ _ (address_itself e.address) (nat_eq_equiv.refl e.port)
+
+-- an endpoint of either list is found in one
+pub listed : (i : PortInfo) (e : Endpoint) → Contains (both_lists i) e
+    → (has_endpoint e i.lists.cluster || has_endpoint e i.lists.local) ≡ true
+listed i e c =
+    elim (Contains-append_cases i.lists.cluster i.lists.local e c) [
+      | inl there ↦ or_left _ _ (any_from (λ other. is_endpoint other e) e i.lists.cluster there (itself e))
+      | inr there ↦ or_right _ _ (any_from (λ other. is_endpoint other e) e i.lists.local there (itself e))
+    ]
 
 -- ---- So its endpoint stands
 
 module _ (setting : Setting) (infos : List PortInfo) (packet : Packet) (draws : ℕ → ℕ) (lists : RecentParts) (udp : same_proto packet.proto Udp ≡ true) where
-  listed : (i : PortInfo) (e : Endpoint) → Contains (both_lists i) e
-      → (has_endpoint e i.lists.cluster || has_endpoint e i.lists.local) ≡ true
-  listed i e c =
-      elim (Contains-append_cases i.lists.cluster i.lists.local e c) [
-        | inl there ↦ or_left _ _ (any_from (λ other. is_endpoint other e) e i.lists.cluster there (itself e))
-        | inr there ↦ or_right _ _ (any_from (λ other. is_endpoint other e) e i.lists.local there (itself e))
-      ]
-
   of_translation : (t : Translation) → translation_of setting infos packet draws lists ≡ Some t
       → stands_in infos t.chosen.endpoint ≡ true
   of_translation t h =

@@ -1,0 +1,2 @@
+pub mod FlowText
+pub mod TrackMode

@@ -1,0 +1,6 @@
+pub mod Counting
+pub mod Fallen
+pub mod Followed
+pub mod Listed
+pub mod Same
+pub mod Standing
