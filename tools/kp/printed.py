@@ -198,14 +198,44 @@ def verdict_of(text):
     """What becomes of a packet. The value is shared: nobody changes it."""
     if text in ("rejected", "dropped", "left alone"):
         return {"verdict": text}
+    return sent_of(text)
+
+
+def sent_of(text):
     end = known(is_sent_to(text))
     return {"verdict": "to", "endpoint": endpoint_of(end[1], end[2]), "masked": bool(end[3])}
 
 
 def verdict_text(value):
-    if value["verdict"] != "to":
-        return value["verdict"]
+    return sent_text(value) if value["verdict"] == "to" else value["verdict"]
+
+
+def sent_text(value):
     return f"to {endpoint_text(value['endpoint'])}{' masked' if value['masked'] else ''}"
+
+
+# what is said where connections are kept
+LATER, REPLY, UNTRACKED = "later ", "reply as ", " untracked"
+
+
+@lru_cache(maxsize=4096)
+def answer_of(text):
+    """What becomes of a packet, or of which connection it is. The value is shared: nobody changes it."""
+    if text.startswith(LATER):
+        return {**sent_of(text[len(LATER) :]), "verdict": "later"}
+    if text.startswith(REPLY):
+        return {"verdict": "reply", "as": endpoint_in(text[len(REPLY) :])}
+    if text.endswith(UNTRACKED):
+        return {**sent_of(text[: -len(UNTRACKED)]), "untracked": True}
+    return verdict_of(text)
+
+
+def answer_text(value):
+    if value["verdict"] == "later":
+        return LATER + sent_text(value)
+    if value["verdict"] == "reply":
+        return REPLY + endpoint_text(value["as"])
+    return verdict_text(value) + (UNTRACKED if value.get("untracked") is True else "")
 
 
 SHUT = {
@@ -256,13 +286,13 @@ def read_answer(line):
     form, number, sync, rest = known(is_answer(line)).groups()
     said = {"form": form, "line": int(number), "sync": int(sync)}
     if form == "packet":
-        return {**said, **verdict_of(rest)}
+        return {**said, **answer_of(rest)}
     verdict, _, reason = rest.partition("; ")
     return {**said, **verdict_of(verdict), **reason_of(reason)}
 
 
 def packet_text(value):
-    return f"packet {value['line']} at {value['sync']}: {verdict_text(value)}"
+    return f"packet {value['line']} at {value['sync']}: {answer_text(value)}"
 
 
 def explain_text(value):

@@ -12,7 +12,6 @@ from pathlib import Path
 
 TOP = Path(__file__).resolve().parent.parent.parent
 OK, OUT_OF_MEMORY, MISUSED, REFUSED, READ, WRITE, TOO_LONG = range(7)
-MODES = ("replay", "changes", "health", "live")
 # of a line, and of the sync that ends a live run
 REFUSAL = re.compile(rb"^(?:line (\d+)|final): refused: (.*)$", re.M)
 PIECE = 1 << 16

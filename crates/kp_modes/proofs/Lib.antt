@@ -1,1 +1,4 @@
+mod AllStand
+mod Follows
+mod OpenedText
 mod Synced

@@ -6,6 +6,7 @@ use Rattle.std.specs.Prelude.{OnOk, Result}
 use Rattle.std.proofs.lemmas.Result.{on_ok_weaker}
 use Rattle.kp_base.specs.declared.address.Family.TheVariants.{V4, V6}
 use Rattle.kp_base.specs.declared.config.Config.{Config}
+use Rattle.kp_base.specs.declared.key.Endpoint.{Endpoint}
 use Rattle.kp_base.specs.declared.key.ObjectKey.{ObjectKey}
 use Rattle.kp_object_defs.specs.Objects.{Objects}
 use Rattle.kp_object_defs.specs.OwnKeys.{AreUnderOwnKeys}
@@ -22,6 +23,8 @@ use Rattle.kp_plane.specs.Past.{LeadPastOthers}
 use Rattle.kp_mode.specs.Calls.{before_sync, covered_by}
 use Rattle.kp_mode.proofs.CallLemmas.{covered_then}
 use Rattle.kp_mode_defs.specs.Mode.{objects_at}
+use Rattle.kp_udp_endpoints.specs.Counts.{AreCounted, Counts, HaveFallen, IsFollowed}
+use Rattle.kp_udp_endpoints.specs.Endpoints as endpoints
 use Rattle.kp_modes.specs.Modes.{change_lines}
 
 -- the objects that syncs cover stand under their own keys
@@ -91,3 +94,31 @@ module _ (p : PlaneParts) where
           ⊎ IsKnownAt p.config (objects_in p) new key
       one key (inl same) = inl (same ∙ known key)
       one key (inr now) = inr now
+
+-- ---- Counts of UDP endpoints
+
+module _ (p : PlaneParts) where
+  -- the counts of before are followed by the ports that the sync changed
+  pub followed : OwnKeysAfterEvents → (config : Config) (o : Objects) (four six : List DirtyPort)
+      → config ≡ p.config → o ≡ objects_in p → four ≡ dirty_in V4 p → six ≡ dirty_in V6 p
+      → (c : Counts) → AreCounted p.config (objects_before p) c
+      → IsFollowed config (objects_before p) o four six c
+  followed own config o four six is are first second c counted = record {
+    own = own_covered own p (syncs_in p - 1);
+    own_after = subst AreUnderOwnKeys (sym are) (own_covered own p (syncs_in p));
+    four = first ∙ (λ i. endpoints.dirty_in (sym is i) (objects_before p) (sym are i) V4);
+    six = second ∙ (λ i. endpoints.dirty_in (sym is i) (objects_before p) (sym are i) V6);
+    counted = subst (λ config. AreCounted config (objects_before p) c) (sym is) counted;
+  }
+
+  module _ (config : Config) (o : Objects) (is : config ≡ p.config) (are : o ≡ objects_in p) where
+    -- to those of the objects that it covers
+    pub counted_now : (c : Counts) → AreCounted config o c → AreCounted p.config (objects_in p) c
+    counted_now c counted =
+        subst (λ o. AreCounted p.config o c) are (subst (λ config. AreCounted config o c) is counted)
+
+    pub fallen_now : (fallen : List Endpoint) → HaveFallen config (objects_before p) o fallen
+        → HaveFallen p.config (objects_before p) (objects_in p) fallen
+    fallen_now fallen fell =
+        subst (λ o. HaveFallen p.config (objects_before p) o fallen) are
+        (subst (λ config. HaveFallen config (objects_before p) o fallen) is fell)

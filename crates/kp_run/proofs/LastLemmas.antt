@@ -4,7 +4,7 @@ use Rattle.std.specs.Prelude.{nat_lt, length, IfSome, is_some}
 use Rattle.std.specs.List.{list_any}
 use Rattle.kp_run_defs.specs.LegalRuns.{final_clash}
 use Rattle.kp_run_defs.specs.LiveText.{is_refused_sync}
-use Rattle.kp_run_defs.proofs.LastTables.{last_table_is_full}
+use Rattle.kp_run_defs.proofs.LastTables.{covered_table_is_full}
 use Rattle.kp_live.specs.Written as live
 use Rattle.kp_run.specs.LastTables.{LastLiveTable}
 
@@ -23,7 +23,7 @@ last_live_table from to input output text left ends =
       run,
       writes.runs.reads,
       writes.grown,
-      last_table_is_full run writes.runs.legal
+      covered_table_is_full run writes.runs.counted.covered
           (last_is_not (nat_lt 0 (length run.reading.refused))
           (list_any (is_refused_sync run) run.reading.lines) (is_some (final_clash run))
           writes.told),

@@ -1,20 +1,11 @@
 -- Words that ask for a run which reads the source are never answered by the usage line.
-use Rattle.std.proofs.Common.{◌≡◌, true, Option, Some, None, inl, inr, refl, subst}
+use Rattle.std.proofs.Common.{◌≡◌, true, Option, Some, None, inl, inr, subst}
 use Rattle.kp_io.specs.Ends.{Input, Output}
 use Rattle.kp_words.specs.declared.mode.Mode.{Mode}
 use Rattle.kp_words.specs.declared.mode.Mode.TheVariants as mode
 use Rattle.kp_run.specs.declared.status.Status.{Status}
 use Rattle.kp_run.specs.declared.status.Status.TheVariants.{Usage}
-use Rattle.kp_run.specs.Outcome.{EndsBy, Runs, needs_threads, reads_source}
-
--- a run that needs threads reads the source
-pub threads_read : (m : Option Mode) → needs_threads m ≡ true → reads_source m ≡ true
-threads_read None asks = absurd (cc)
-threads_read (Some (mode.Replay workers)) asks = refl
-threads_read (Some mode.Changes) asks = refl
-threads_read (Some mode.Health) asks = refl
-threads_read (Some mode.Live) asks = refl
-threads_read (Some (mode.Gen seed services pods)) asks = absurd (cc)
+use Rattle.kp_run.specs.Outcome.{EndsBy, Runs, reads_source}
 
 module _ (from : Input) (to : Output) (input : Input) (output : Output) where
   ends_no_usage : (m : Option Mode) → reads_source m ≡ true → EndsBy m Usage from to input output → ⊥
@@ -22,6 +13,7 @@ module _ (from : Input) (to : Output) (input : Input) (output : Output) where
   ends_no_usage (Some (mode.Replay workers)) asks ends = ends
   ends_no_usage (Some mode.Changes) asks ends = ends
   ends_no_usage (Some mode.Health) asks ends = ends
+  ends_no_usage (Some mode.Track) asks ends = ends
   ends_no_usage (Some mode.Live) asks ends = ends
   ends_no_usage (Some (mode.Gen seed services pods)) asks ends = absurd (cc)
 

@@ -4,6 +4,7 @@ use Rattle.kp_io.specs.Ends.{Input, Output}
 use Rattle.kp_gen_defs.specs.declared.plan.ScriptPlan.{ScriptPlan}
 use Rattle.kp_mode_defs.specs.Summing.{gen_of, gen_text}
 use Rattle.kp_modes.specs.Modes.{changing, healthy}
+use Rattle.kp_track_mode_defs.specs.TrackMode.{tracking}
 use Rattle.kp_words.specs.declared.mode.Mode.{Mode}
 use Rattle.kp_words.specs.declared.mode.Mode.TheVariants as mode
 use Rattle.kp_run.specs.Complete.{EndsByLines, IsUnhindered, UnhinderedRunsEndByLines}
@@ -48,6 +49,7 @@ by_words : (mode : Mode) (status : Status) {from : Input} {to : Output} {input :
 by_words (mode.Replay workers) status free ends = by_text free replayed status ends
 by_words mode.Changes status free ends = by_text free (in_mode changing) status ends
 by_words mode.Health status free ends = by_text free (in_mode healthy) status ends
+by_words mode.Track status free ends = by_text free (in_mode tracking) status ends
 by_words mode.Live status free ends = by_live free status ends
 by_words (mode.Gen seed services pods) status free ends =
     let plan : ScriptPlan = record { seed = seed; services = services; pods = pods } in

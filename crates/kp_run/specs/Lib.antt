@@ -1,3 +1,4 @@
+pub mod Alone
 pub mod Codes
 pub mod Complete
 pub mod Given

@@ -17,6 +17,7 @@ use Rattle.kp_mode_defs.specs.Mode.{LineIn, Mode, Place}
 use Rattle.kp_mode_defs.specs.Summing.{gen_of, gen_text}
 use Rattle.kp_live.specs.Written as live
 use Rattle.kp_modes.specs.Modes.{changing, healthy}
+use Rattle.kp_track_mode_defs.specs.TrackMode.{tracking}
 use Rattle.kp_run.specs.declared.status.Status.{Status}
 use Rattle.kp_run.specs.declared.status.Status.TheVariants.{Done, NoMemory, Usage, LinesRefused, ReadFault, WriteFault, InputTooLong}
 use Rattle.kp_replay.specs.Steps.{IsReady}
@@ -177,15 +178,16 @@ EndsGen plan status to output = EndsLine (gen_of plan).at.standing.refused (gen_
 
 -- ---- A live run
 
--- the whole text of a legal run was written and flushed, this is whether a line or the sync that
--- ends the run was refused, nothing failed, and where the source tells what it has left, that is
+-- the whole text of a run that is legal by counts was written and flushed, this is whether a line
+-- or the sync that ends the run was refused, nothing failed, and where the source tells what it has left, that is
 -- nothing
 abbrev pub EndsLiveWhole : Bool → Input → Output → Input → Output → Type 0
 EndsLiveWhole refused from to input output =
     IfSome from.left (λ text. live.WritesInput refused text to output)
     × IsOut output × IsSure from to input output × IsAtEnd input.left
 
--- where the input is told, nothing was written, or a front of the text of a legal run of it
+-- where the input is told, nothing was written, or a front of the text of a run of it that is legal by
+-- counts
 abbrev pub EndsLiveFront : Input → Output → Output → Type 0
 EndsLiveFront from to output =
     IfSome from.left (λ text. live.WritesFront (reading_of (lines_of text)) to output)
@@ -195,7 +197,7 @@ abbrev pub EndsUnread : Output → Output → Type 0
 EndsUnread to output = EndsPrinted [] to output
 
 -- What holds of each status of a live run: where it read its input to its end and wrote all, the
--- whole text of a legal run was written and flushed, and whether a line was refused is told. Where
+-- whole text of a run that is legal by counts was written and flushed, and whether a line was refused is told. Where
 -- memory was wanted or a write failed, nothing or a front of such a text was written. Where reading
 -- stopped it, nothing was run or written, and no write has failed. Nothing is kept back, unless a
 -- write failed.
@@ -219,6 +221,7 @@ reads_source None = false
 reads_source (Some (mode.Replay workers)) = true
 reads_source (Some mode.Changes) = true
 reads_source (Some mode.Health) = true
+reads_source (Some mode.Track) = true
 reads_source (Some mode.Live) = true
 reads_source (Some (mode.Gen seed services pods)) = false
 
@@ -228,6 +231,7 @@ needs_threads None = false
 needs_threads (Some (mode.Replay workers)) = nat_lt 1 workers
 needs_threads (Some mode.Changes) = false
 needs_threads (Some mode.Health) = false
+needs_threads (Some mode.Track) = false
 needs_threads (Some mode.Live) = true
 needs_threads (Some (mode.Gen seed services pods)) = false
 
@@ -237,6 +241,7 @@ EndsBy None status from to input output = EndsUsage status to output
 EndsBy (Some (mode.Replay workers)) status from to input output = Ends status from to input output
 EndsBy (Some mode.Changes) status from to input output = EndsIn changing status from to input output
 EndsBy (Some mode.Health) status from to input output = EndsIn healthy status from to input output
+EndsBy (Some mode.Track) status from to input output = EndsIn tracking status from to input output
 EndsBy (Some mode.Live) status from to input output = EndsLive status from to input output
 EndsBy (Some (mode.Gen seed services pods)) status from to input output =
     EndsGen (record { seed = seed; services = services; pods = pods }) status to output

@@ -17,6 +17,8 @@ pub enum Mode {
     Changes,
     /// It answers them, and tells what health probes of the node would see after each sync.
     Health,
+    /// It answers them as a node does that keeps connections.
+    Track,
     /// It runs the streams of its input side by side.
     Live,
     /// It generates a script from a seed, with so many Services and pods, and prints what came of
@@ -61,6 +63,7 @@ fn named_mode(name: &str) -> Option<Mode>
         "replay" => Some(Mode::Replay { workers: 1 }),
         "changes" => Some(Mode::Changes),
         "health" => Some(Mode::Health),
+        "track" => Some(Mode::Track),
         "live" => Some(Mode::Live),
         _ => None,
     }

@@ -248,7 +248,7 @@ def _allowed_of(item, path):
 
 
 def _allowed_in_line(value, path):
-    if path == "type":
+    if path in ("type", "event.type"):
         return choice(*VERBS)
     if path == "items" or path.endswith(".items"):
         return Form("a list of objects")

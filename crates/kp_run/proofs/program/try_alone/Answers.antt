@@ -1,6 +1,6 @@
 use Rattle.std.proofs.Common.{inr, map, refl, string_bytes, sym, subst}
 use Rattle.kp_run.proofs.PlanLemmas.{Fits, mode_fits}
-use Rattle.kp_run.proofs.program.run_alone.Goals as goal
+use Rattle.kp_run.proofs.program.try_alone.Goals as goal
 
 -- the numbers are within their bounds
 pub generate-requires : goal.generate-requires
@@ -10,5 +10,5 @@ generate-requires g c =
     subst Fits (sym told) (mode_fits (map string_bytes c.args.words.now))
 
 -- there was no memory for the words
-pub returns-in-Err-clause-some : goal.returns-in-Err-clause-some
-returns-in-Err-clause-some g c = inr (refl, refl)
+pub returns-in-Err-clause-ran : goal.returns-in-Err-clause-ran
+returns-in-Err-clause-ran g c = inr (refl, refl)
