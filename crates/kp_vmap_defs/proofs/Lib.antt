@@ -1,0 +1,3 @@
+pub mod Destinations
+pub mod KnownPorts
+pub mod Picked

@@ -1,0 +1,4 @@
+pub mod MapLaws
+pub mod Remainder
+pub mod VerdictMap
+pub mod Worked
