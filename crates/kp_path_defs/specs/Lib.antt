@@ -1,0 +1,5 @@
+pub mod Asides
+pub mod Chances
+pub mod Paths
+pub mod PathText
+pub mod Sources
