@@ -124,6 +124,8 @@ PROGRAMS = {
         printed(r"^COMMIT\n\*filter\n(?=:INPUT)", r"-A KUBE-SVC-X -j ACCEPT\n\g<0>"),
         "echo",
     ),
+    "answers a later packet anew": (printed(r"(?<=: )later (?=to )", "", "track"), "track"),
+    "keeps no connection": (printed(f"^{PACKET}to .*", r"\g<0> untracked", "track"), "track"),
     "takes a stream's events in another order": (
         printed(r"^(event \d+: )(.*\n)(event \d+: )(.*\n)", r"\1\4\3\2", "live"),
         "live",

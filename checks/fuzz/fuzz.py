@@ -12,7 +12,9 @@
     the text is the same, but for what these lines print.
     kp_restore_echo reads the tables of each family at the end, and prints them as they were; and
     packets go where these say (walk.py walks their rules).
-    In the other modes over the same lines the text is the same, but for what these add.
+    In the other modes over the same lines the text is the same, but for what these add; and where
+    connections are kept, but for the flows that a list of openers owns (../track/tracker.py), by the
+    endpoints of UDP in the tables after each sync.
     Where streams run at once the program ends well. Of some scripts what is written then is judged,
     too: it is a legal run (../live/runs.py says of what), and the last tables of a stream alone are
     those of a replay.
@@ -35,9 +37,11 @@ from itertools import accumulate, islice
 from multiprocessing import Pool
 from pathlib import Path
 
-sys.path.append(str(Path(__file__).resolve().parent.parent / "live"))
+CHECKS = Path(__file__).resolve().parent.parent
+sys.path += [str(CHECKS / "live"), str(CHECKS / "track")]
 
 import runs
+from answers import endpoint_of, tracked
 from runner import PIECE, Wrong, end_of, file_of, pieces_of, pipe_of
 from scripts import MOST_BYTES, random_script, to_door
 from walk import Tables, Unknown, Walk
@@ -48,6 +52,7 @@ MOST_FAULTS = 5
 JUDGED = 0.1  # of the live runs are judged, which takes the most time
 WALKED = 10  # packets by the last tables
 IN_MODES = 0.25  # of the scripts run in another mode as well
+TRACKED = 0.15  # of them keep connections, too
 # how the lines begin that a mode adds, and the form of what it adds at the end
 RULES_AT_END = r"(?:\*filter\n:KUBE-NODEPORTS .*\n(?:-A .*\n)+COMMIT\n)?"
 MODES = {"changes": ("change", ""), "health": ("health", RULES_AT_END)}
@@ -59,6 +64,8 @@ BOOKMARK = b'{"type":"BOOKMARK","object":{}}'
 TABLES = [b'{"op":"show","what":"nat"}', b'{"op":"show","what":"filter"}']
 TABLES6 = [b'{"op":"show","what":"nat6"}', b'{"op":"show","what":"filter6"}']
 REFUSED = re.compile(r"^line (\d+): refused: (.*)\n", re.M)
+SYNCED = re.compile(r"^sync \d+: .*\n", re.M)
+TO_UDP = re.compile(r"^-A .* -p udp .*-j DNAT --to-destination \[?(.+?)\]?:(\d+)$", re.M)
 
 TOO_LONG = f"longer than {MOST_BYTES} bytes"
 PATH = r' "(?:[^"\\]|\\.)*"'
@@ -310,6 +317,8 @@ def check_script(program, data, rng):
         compare("workers", check_status("replay by workers", shared), text)
     if rng.random() < IN_MODES:
         check_mode(program, data, text, rng.choice(list(MODES)))
+    if rng.random() < TRACKED:
+        check_track(program, data, lines, marked)
     tables, tables6 = check_marked(program, marked, printed, rng)
     if program.echo:
         compare("echo", program.echoed(tables), tables)
@@ -329,6 +338,16 @@ def check_mode(program, data, replayed, mode):
     compare(mode, text[: len(replayed)], replayed)
     rest = text[len(replayed) :]
     demand(re.fullmatch(ending, rest), f"{mode}: ends with {rest[-200:]!r}")
+
+
+def check_track(program, data, lines, marked):
+    """Connections are kept as a list of openers says."""
+    asked = [[it, *TABLES, *TABLES6] if asked_by(it).op == "sync" else [it] for it in marked]
+    text = program.run(["replay"], b"\n".join([*sum(asked, []), b""]))[1]
+    standing = [{endpoint_of(*it) for it in TO_UDP.findall(part)} for part in SYNCED.split(text)[1:]]
+    wanted = tracked(lambda it: program.run(["replay"], it), lines, lambda *_: iter(standing))
+    text = check_status("track", program.run(["track"], data))
+    compare("track", text, "".join(it + "\n" for it in wanted[1]))
 
 
 def check_marked(program, marked, wanted, rng):

@@ -139,7 +139,10 @@ def served(cluster, rng):
         "type": "LoadBalancer",
         "clusterIPs": [DOORS[0], DOORS6[0]],
         "externalIPs": [DOORS[1], DOORS6[1]],
-        "ports": [{"name": "http", "port": 80, "protocol": "TCP", "nodePort": 30090}],
+        "ports": [
+            {"name": "http", "port": 80, "protocol": "TCP", "nodePort": 30090},
+            {"name": "dns", "port": 53, "protocol": "UDP", "nodePort": 30091},
+        ],
     }
     service["status"] = {"loadBalancer": {"ingress": [{"ip": DOORS[2]}, {"ip": DOORS6[2]}]}}
     service["spec"].pop("ipFamilies", None)
@@ -149,7 +152,7 @@ def served(cluster, rng):
         item = changes.made("EndpointSlice", name, changes.slice_choices(name), rng)
         item["metadata"]["labels"] = {changes.OF_SERVICE: SERVED}
         item |= {"addressType": "IPv6" if ":" in first else "IPv4"}
-        item |= {"ports": [{"name": "http", "port": 8080}]}
+        item |= {"ports": [{"name": "http", "port": 8080}, {"name": "dns", "port": 53, "protocol": "UDP"}]}
         ends = rng.sample(range(2, 9), rng.choice([1, 2, 3, 4, 6]))
         nodes = changes.NODES[:2]
         item["endpoints"] = [
@@ -191,15 +194,15 @@ def show(cluster, rng):
 def packet(cluster, rng):
     """A packet, or what would become of it; mostly to a door that is there."""
     config = {"nodeAddresses": ["10.0.0.1", "10.0.0.2", "fd00::1", "::1"]}
-    items = cluster.named("Service", SERVED) if rng.random() < 0.5 else []
-    items = items or cluster.objects.values()
+    own = cluster.named("Service", SERVED) if rng.random() < 0.5 else []
+    items = own or cluster.objects.values()
     doors = [door for item in items for door in doors_of(item, config)]
     address, port, proto = rng.choice(doors or [("10.96.0.10", 80, "TCP")])
     sources = changes.SOURCES6 if ":" in address else changes.SOURCES
     value = {"op": rng.choice(["packet", "packet", "explain"]), "src": rng.choice(sources)}
     value |= {"dst": address, "dport": port, "proto": proto}
     value |= {"from": rng.choice(["node", "wire"])} if rng.random() < 0.3 else {}
-    value |= {"sport": rng.choice([0, 65535])} if rng.random() < 0.1 else {}
+    value |= {"sport": rng.choice([0, 40000, 40001, 65535])} if rng.random() < 0.7 else {}
     value |= {"now": rng.choice([rng.randint(0, 300), 2**64 - 1])} if rng.random() < 0.7 else {}
     value |= {"seed": rng.getrandbits(rng.choice([1, 64]))} if rng.random() < 0.5 else {}
     if rng.random() < 0.7:
@@ -208,7 +211,17 @@ def packet(cluster, rng):
     before = [{"op": "sync"}] * rng.choice([0, 0, 1])
     if value["op"] == "packet" and rng.random() < 0.5:
         before.append(value | {"op": "explain"})
-    return before + [value] * rng.choice([1, 1, 2])  # the second one may go by affinity
+    after = replies(cluster, value, rng) if own and rng.random() < 0.6 else []
+    return before + [value] * rng.choice([1, 2, 2]) + after  # the second one may go by affinity
+
+
+def replies(cluster, asked, rng):
+    """What the endpoints of the Service that is served say to who asked it."""
+    items = cluster.named("EndpointSlice", f"{SERVED}-{'v' if ':' in asked['src'] else 'x'}")
+    ends = [end["addresses"][0] for item in items for end in item["endpoints"]]
+    value = {"op": "packet", "sport": 53 if asked["proto"] == "UDP" else 8080, "dst": asked["src"]}
+    value |= {"dport": asked.get("sport") or 1, "proto": asked["proto"], "now": asked.get("now", 0)}
+    return [value | {"src": end} for end in rng.sample(ends, len(ends))]
 
 
 def to_door(setting, rng):

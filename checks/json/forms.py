@@ -31,7 +31,7 @@ except ImportError:
 
 TOOL = str(TOP / "tools" / "json")
 SCHEMA = json.loads((TOP / "docs" / "output.schema.json").read_bytes())
-MODES = ("replay", "changes", "health", "live")
+MODES = ("replay", "changes", "health", "track", "live")
 GENERATED = 20  # of every so many random texts one is of a generated run
 MOST_BYTES = 2_000_000  # of a random text
 MOST_FAULTS = 5
@@ -176,10 +176,10 @@ def check_texts(texts):
 
 
 def worked_texts(program):
-    for folder in ("replays", "changes", "health", "live"):
+    for folder in ("replays", "changes", "health", "track", "live"):
         for path in sorted((HERE.parent / folder).glob("*.txt")):
             yield f"{folder}/{path.name}", path.read_bytes()
-    for name in ("rollout", "families", "probes", "changes", "live"):
+    for name in ("rollout", "families", "probes", "changes", "connections", "live"):
         yield f"examples/{name}.txt", (TOP / "examples" / f"{name}.txt").read_bytes()
     for mode in MODES:
         for path in sorted((TOP / "examples").glob("*.jsonl")):
@@ -296,6 +296,11 @@ def check_beside(program):
 UNKNOWN = [
     b"hello\n", b"\n", b"sync 1: events 1, written 1\n", b"sync 01: events 1, written 1, removed 0\n",
     b"packet 1 at 1: to 10.0.0.1\n", b"packet 1 at 1: to 10.0.0.1:80 masked masked\n",
+    b"packet 1 at 1: rejected untracked\n", b"packet 1 at 1: to 10.0.0.1:80 untracked masked\n",
+    b"packet 1 at 1: later to 10.0.0.1:80 untracked\n", b"packet 1 at 1: later rejected\n",
+    b"packet 1 at 1: reply as 10.0.0.1:80 masked\n", b"packet 1 at 1: reply as 10.0.0.1\n",
+    b"explain 1 at 1: later to 10.0.0.1:80; no door decides\n",
+    b"explain 1 at 1: to 10.0.0.1:80 untracked; no door decides\n",
     b"packet 1 at 1: rejected masked\n", b" packet 1 at 1: dropped\n", b"packet 1 at 1: dropped\r\n",
     b"packet 1 at 1: dropped; no door decides\n", b"explain 1 at 1: dropped\n",
     b"explain 1 at 1: dropped; door roof a/b/TCP has no endpoints\n",
@@ -319,6 +324,10 @@ NO_OBJECTS = [
     b"7\n", b"{}\n", b"[]\n", b"{\n", b"\n", b"[" * 100_000 + b"\n", b'{"form":"packet"}\n',
     b'{"form":"packet","line":1,"sync":1,"verdict":"upstairs"}\n',
     b'{"form":"packet","line":1.0,"sync":1,"verdict":"dropped"}\n',
+    b'{"form":"packet","line":1,"sync":1,"verdict":"dropped","untracked":true}\n',
+    b'{"form":"packet","line":1,"sync":1,"verdict":"to","endpoint":{"address":"10.0.0.1","port":1},"masked":true,"untracked":1}\n',
+    b'{"form":"packet","line":1,"sync":1,"verdict":"reply","as":{"address":"10.0.0.1","port":1},"masked":true}\n',
+    b'{"form":"explain","line":1,"sync":1,"verdict":"later","reason":"no door"}\n',
     b'{"form":"packet","line":true,"sync":1,"verdict":"dropped"}\n',
     b'{"form":"packet","line":1,"sync":1,"verdict":"dropped","more":1}\n',
     b'{"form":"sync","sync":"1: events 1\\nsync 2","events":1,"written":1,"removed":0}\n',

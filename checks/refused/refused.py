@@ -33,6 +33,7 @@ ROWS = [
     ("replay --workers 2", "replays/affinity_timeout_is_inclusive_and_renewed.jsonl"),
     ("changes", "changes/refused_syncs_print_no_change.jsonl"),
     ("health", "health/the_last_record_counts.jsonl"),
+    ("track", "track/udp_is_sent_anew_where_its_endpoint_went.jsonl"),
     ("live", "live/a_clash_at_the_end.jsonl"),
     ("live", "live/each_sync_has_its_record.jsonl"),
 ]

@@ -11,7 +11,7 @@ import sys
 from pathlib import Path
 
 TOP = Path(__file__).resolve().parent.parent.parent
-PAGES = {"README.md": 2, "docs/MODES.md": 6, "docs/FORMAT.md": 1}
+PAGES = {"README.md": 3, "docs/MODES.md": 7, "docs/FORMAT.md": 1}
 COMMAND = re.compile(r"(?:\$ )?\./kproxy (\w+[\w ]*?)(?: < (examples/\S+))?")
 CLUSTER = "tools/cluster n1 > state.jsonl"
 QUESTION = re.compile("echo '(.*)' > question.jsonl")
