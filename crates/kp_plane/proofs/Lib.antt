@@ -9,6 +9,7 @@ mod FewMade
 mod Made
 mod PastEvents
 mod Places
+mod Questions
 mod Refreshed
 mod Settled
 mod Since

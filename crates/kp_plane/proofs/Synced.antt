@@ -4,19 +4,16 @@ use Rattle.std.proofs.Common.{take, length, sum, Bool, true, false, None}
 use Rattle.std.proofs.Common.{refl, sym, ap, subst, ◌∙◌, arith, le_refl}
 use Rattle.std.proofs.lemmas.Bool.Decides.{nat_tests}
 use Rattle.std.proofs.lemmas.List.{take_all, take-append-le, length_push}
+use Rattle.kp_base.specs.declared.config.Config.{Config}
 use Rattle.kp_types.specs.declared.event.Event.{Event}
-use Rattle.kp_types.specs.declared.packet.Packet.{Packet}
 use Rattle.kp_types.specs.declared.rule.Batch.{Batch}
 use Rattle.kp_types.specs.declared.rule.Edit.{Edit}
 use Rattle.kp_types.specs.declared.sync.SyncRecord.{SyncRecord}
 use Rattle.kp_types.specs.Setting.{both_families}
-use Rattle.kp_choice_defs.specs.Recent.{RecentParts}
 use Rattle.kp_object_defs.specs.Objects.{Objects, objects_after}
 use Rattle.kp_object_defs.specs.SlicesNow.{slices_now}
-use Rattle.kp_door_defs.specs.Decision.{decision_of}
 use Rattle.kp_table_defs.specs.Edits.{SameRulesAreEqual, changes_between}
 use Rattle.kp_table_defs.specs.Rebuild.{clash_of, full_table}
-use Rattle.kp_decide.specs.Told.{told}
 use Rattle.kp_history.specs.Parts.{PlaneParts, HasExactHistory, settings_in, uncovered_in}
 use Rattle.kp_history.specs.Parts.{objects_in, chains_in, next_edits, synced}
 use Rattle.kp_history.specs.Invariant.{IsHistory, LeadsToNext}
@@ -24,7 +21,7 @@ use Rattle.kp_history.specs.declared.history.History.{History}
 use Rattle.kp_history.proofs.Synced.{all_counted, within}
 use Rattle.kp_plane.specs.Invariant.{Holds, IsAtPlace, IsPlane, IsSlicesAt}
 use Rattle.kp_plane.specs.Notes.{note_of}
-use Rattle.kp_plane.specs.Parts.{IsNextRecord, explained_in, syncs_in, next_record}
+use Rattle.kp_plane.specs.Parts.{IsNextRecord, syncs_in, next_record}
 use Rattle.kp_plane.specs.declared.note.SyncNote.{SyncNote}
 use Rattle.kp_plane.specs.declared.place.ObjectsAt.{ObjectsAt}
 use Rattle.kp_plane.specs.declared.ports_at.PortsAt.{PortsAt}
@@ -148,11 +145,11 @@ some_left p h is more all =
     let few = within p is.exact in
     omega (arith, more, all, covered, few)
 
--- the decision on the objects that the last sync covers
-pub same_decision : (p q : PlaneParts) → p ≡ q → (o : Objects) → o ≡ objects_in p → (packet : Packet) (drawn : ℕ → ℕ) (lists : RecentParts)
-    → told (decision_of (settings_in p) o packet drawn lists) ≡ explained_in q packet drawn lists
-same_decision p q same o is packet drawn lists =
-    ap (λ o. told (decision_of (settings_in p) o packet drawn lists)) is ∙ ap (λ r. explained_in r packet drawn lists) same
+-- what is answered by the objects that the last sync covers
+pub same_answer : (p q : PlaneParts) → p ≡ q → (o : Objects) → o ≡ objects_in p
+    → (R : Config → Objects → Type 0) → R p.config o → R q.config (objects_in q)
+same_answer p q same o is R h =
+    subst (λ r. R r.config (objects_in r)) same (subst (R p.config) is h)
 
 -- ---- What a sync tells
 

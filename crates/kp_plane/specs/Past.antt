@@ -1,5 +1,5 @@
 -- Events that lead past a Service: from some objects to others, and none of them touches it.
-use Rattle.std.specs.Prelude.{◌≡◌, ◌||◌, Bool, false, List}
+use Rattle.std.specs.Prelude.{◌≡◌, Bool, false, List}
 use Rattle.std.specs.List.{fold}
 use Rattle.kp_base.specs.declared.key.ObjectKey.{ObjectKey}
 use Rattle.kp_types.specs.Setting.{Settings}

@@ -26,10 +26,10 @@ use crate::laws::walk_decides;
 use crate::note::SyncNote;
 use crate::place::ObjectsAt;
 use crate::ports_at::PortsAt;
+use crate::question::{Deciding, Question};
 use crate::slices_at::SlicesAt;
 use crate::sync::{OfBatch, sync_as};
 use kp_base::{Config, Family, Items, NoMemory, Steps};
-use kp_decide::decide;
 use kp_draws::DrawSource;
 use kp_events::{Journal, JournalFault};
 use kp_full_table::TableFault;
@@ -320,29 +320,29 @@ impl Plane {
             ≡ explained_in self.old packet.entry.now drawn lists.now) }
         ensures stays { self.new ≡ self.old }
     {
-        let covered = self.history.covered as usize;
-        if self.ports.latest.at == covered {
-            return decide(
-                alloc,
-                &self.ports.latest.objects,
-                &self.config,
-                number,
-                packet,
-                draws,
-                lists,
-            );
-        }
-        self.explained
-            .advance(alloc, self.journal.events(), covered)?;
-        decide(
-            alloc,
-            &self.explained.objects,
-            &self.config,
+        let question = Deciding {
             number,
             packet,
             draws,
             lists,
-        )
+        };
+        self.ask(alloc, &question)
+    }
+
+    /// The answer to a question by the objects that the last sync covers.
+    pub fn ask<Q: Question>(&mut self, alloc: Global, question: &Q) -> Result<Q::Answer, NoMemory>
+        requires { Q.may_ask question.now }
+        ensures right { IfOk result
+            (Q.is_right question.now self.old.config (parts.objects_in self.old)) }
+        ensures stays { self.new ≡ self.old }
+    {
+        let covered = self.history.covered as usize;
+        if self.ports.latest.at == covered {
+            return question.answer(alloc, &self.config, &self.ports.latest.objects);
+        }
+        self.explained
+            .advance(alloc, self.journal.events(), covered)?;
+        question.answer(alloc, &self.config, &self.explained.objects)
     }
 
     /// The slices by now, in order of their keys: as they were fed, and as the controller made
