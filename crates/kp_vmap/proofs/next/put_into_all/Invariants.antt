@@ -1,0 +1,12 @@
+use Rattle.std.proofs.Common.{◌≡◌, take}
+use Rattle.kp_vmap_defs.specs.declared.door.Destination.{Destination}
+use Rattle.kp_vmap.specs.Places.{is_one_at, put_at, staged_at}
+use Rattle.kp_vmap.proofs.next.put_into_all.Given as goal
+
+-- so it is at the destinations of the doors so far
+abbrev pub invariant-loop-door : goal.invariant-loop-door
+invariant-loop-door l =
+    (d : Destination)
+    → staged_at l.kept.entries l.staged.entries d
+    ≡ put_at (is_one_at (take l.door-index l.doors) d) l.port
+    (staged_at l.kept.entries l.fn.staged.entries d)

@@ -1,0 +1,8 @@
+pub mod Between
+pub mod Family
+pub mod Here
+pub mod Kept
+pub mod KeptNames
+pub mod Merged
+pub mod Places
+pub mod Replaced
