@@ -1,0 +1,11 @@
+pub mod Chances
+pub mod DecidedAlike
+pub mod Draws
+pub mod Endpoints
+pub mod LeastKinds
+pub mod Reached
+pub mod Rising
+pub mod Said
+pub mod Served
+pub mod SourceKinds
+pub mod Unseen

@@ -1,0 +1,5 @@
+pub mod ChanceLaws
+pub mod DrawLaws
+pub mod EndpointLaws
+pub mod SourceLaws
+pub mod UnseenLaws
