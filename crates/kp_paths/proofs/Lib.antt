@@ -1,0 +1,15 @@
+pub mod Added
+pub mod AddedMore
+pub mod AllLines
+pub mod AllPlaces
+pub mod EndpointTests
+pub mod EnoughOfBoth
+pub mod FirstFitting
+pub mod FirstOfKinds
+pub mod PathWords
+pub mod Places
+pub mod RangeEnds
+pub mod Refused
+pub mod ServedBy
+pub mod SourceLines
+pub mod SourceOrder

@@ -1,0 +1,8 @@
+use Rattle.std.proofs.lemmas.Result.{on_err_weaker}
+use Rattle.kp_report.proofs.Pieces.{front_on}
+use Rattle.kp_paths.proofs.words.push_chosen.Goals as goal
+
+pub returns-clause-front : goal.returns-clause-front
+returns-clause-front c = on_err_weaker c.push_choice.result
+    (λ h. front_on _ _ _ _ c.in_ok-push_door.ensures.added h)
+    c.push_choice.ensures.front

@@ -1,0 +1,9 @@
+pub mod Beside
+pub mod Lines
+pub mod Places
+pub mod Sets
+pub mod SourceCodes
+pub mod SourceEnds
+pub mod SourceWords
+pub mod Told
+pub mod Words
