@@ -106,8 +106,8 @@ module _ (rows : List Entry) (order new_order : Lists) (index new_index : Index)
               ∙ sym (λ i. rows_of lists b ++ cond (none_equal b l differs i) (row ∷ []) [])
         ]
 
-    put_sized : (o : Option ℕ) → IsPut lists new_lists o row → AreOf new_lists 65536 65536
-    put_sized None put = subst (λ s. AreOf s 65536 65536) (sym put) is.sized
+    put_sized : (o : Option ℕ) → IsPut lists new_lists o row → AreOf new_lists 262144 65536
+    put_sized None put = subst (λ s. AreOf s 262144 65536) (sym put) is.sized
     put_sized (Some l) put = record {
       count = put.sized.count ∙ is.sized.count;
       rows = put.sized.rows ∙ is.sized.rows;

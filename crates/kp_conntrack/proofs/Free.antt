@@ -45,9 +45,9 @@ module _ (rows : List Entry) (order : Lists) (index : Index) (len : length rows 
   of_empty : (lists : Lists) (count number : ℕ) → AreEmpty lists count number → AreOf lists count number
   of_empty lists count number empty = record { count = empty.count; rows = empty.rows }
 
-  indexed : (place : Entry → Option ℕ) (lists : Lists) → AreEmpty lists 65536 65536 → IsIndexed rows (kept_rows order) place lists
+  indexed : (place : Entry → Option ℕ) (lists : Lists) → AreEmpty lists 262144 65536 → IsIndexed rows (kept_rows order) place lists
   indexed place lists empty = record {
-    sized = of_empty lists 65536 65536 empty;
+    sized = of_empty lists 262144 65536 empty;
     here = λ b. empty.empty b ∙ sym (ap (filter (λ row. is_placed b (place (entry_at rows row)))) free.none);
   }
 

@@ -15,11 +15,11 @@ use Rattle.kp_track_defs.specs.Entries.{reply_of}
 
 -- the bucket of a connection
 unfoldable pub connection_bucket : Connection → ℕ
-connection_bucket c = sip.finish (fold sip.write sip.initial (connection_hash.ghosts.hash_input c)) % 65536
+connection_bucket c = sip.finish (fold sip.write sip.initial (connection_hash.ghosts.hash_input c)) % 262144
 
 -- the bucket of an endpoint
 unfoldable pub endpoint_bucket : Endpoint → ℕ
-endpoint_bucket e = sip.finish (fold sip.write sip.initial (endpoint_hash.ghosts.hash_input e)) % 65536
+endpoint_bucket e = sip.finish (fold sip.write sip.initial (endpoint_hash.ghosts.hash_input e)) % 262144
 
 -- where an entry is found by its connection
 abbrev pub connection_place : Entry → Option ℕ

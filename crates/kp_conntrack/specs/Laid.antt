@@ -71,7 +71,7 @@ pub record IsOrdered (order : Lists) : Type 0 where
 
 -- kept rows stand in the lists of their places, in their order
 pub record IsIndexed (rows : List Entry) (kept : List ℕ) (place : Entry → Option ℕ) (lists : Lists) : Type 0 where
-  pub sized : AreOf lists 65536 65536
+  pub sized : AreOf lists 262144 65536
   pub here : (b : ℕ) → rows_of lists b ≡ filter (λ row. is_placed b (place (entry_at rows row))) kept
 
 -- no later row was heard of before this one
@@ -135,16 +135,16 @@ pub record IsRemoved (old new : Index) (row : ℕ) : Type 0 where
 -- the lists are as many as they have to be
 pub record AreAllSized (index : Index) : Type 0 where
   pub ages : AreOf index.ages 2 65536
-  pub connections : AreOf index.connections 65536 65536
-  pub replies : AreOf index.replies 65536 65536
-  pub endpoints : AreOf index.endpoints 65536 65536
+  pub connections : AreOf index.connections 262144 65536
+  pub replies : AreOf index.replies 262144 65536
+  pub endpoints : AreOf index.endpoints 262144 65536
 
 -- no list has a row
 pub record HasNone (index : Index) : Type 0 where
   pub ages : AreEmpty index.ages 2 65536
-  pub connections : AreEmpty index.connections 65536 65536
-  pub replies : AreEmpty index.replies 65536 65536
-  pub endpoints : AreEmpty index.endpoints 65536 65536
+  pub connections : AreEmpty index.connections 262144 65536
+  pub replies : AreEmpty index.replies 262144 65536
+  pub endpoints : AreEmpty index.endpoints 262144 65536
 
 -- so many rows are all free, and each is one of them
 pub record AllFree (order : Lists) (number : ℕ) : Type 0 where

@@ -28,7 +28,7 @@ AreMarkedBy rows kept endpoints marks =
 -- so many rows, and no list has more
 pub record HasRows (rows : List Entry) (lists : Lists) : Type 0 where
   pub len : length rows ≡ 65536
-  pub sized : AreOf lists 65536 65536
+  pub sized : AreOf lists 262144 65536
   pub few : (list : ℕ) → length (rows_of lists list) ≤ 65536
 
 -- a row was freed, or nothing changed

@@ -12,8 +12,9 @@ use std::hash::{DefaultHasher, Hash, Hasher};
 /// How many rows there are.
 pub(crate) const ROWS: u32 = 65536;
 
-/// How many buckets there are of each kind.
-pub(crate) const BUCKETS: u32 = 65536;
+/// How many buckets there are of each kind: four times the rows, so that a search meets few rows of
+/// other flows, each of which would have to come from memory.
+pub(crate) const BUCKETS: u32 = 262144;
 
 /// The timeout of UDP, in seconds.
 const SHORT: u64 = 120;
@@ -67,7 +68,7 @@ pub(crate) fn is_within(entry: &Entry, now: u64) -> bool
 #[tactic(auto, unfolding(crate::specs::Buckets::connection_bucket))]
 pub(crate) fn connection_bucket(connection: &Connection) -> u32
     ensures value { result ≡ spec.connection_bucket connection.now }
-    ensures low { result < 65536 }
+    ensures low { result < 262144 }
 {
     let mut hasher = DefaultHasher::new();
     connection.hash(&mut hasher);
@@ -78,7 +79,7 @@ pub(crate) fn connection_bucket(connection: &Connection) -> u32
 #[tactic(auto, unfolding(crate::specs::Buckets::endpoint_bucket))]
 pub(crate) fn endpoint_bucket(endpoint: &Endpoint) -> u32
     ensures value { result ≡ spec.endpoint_bucket endpoint.now }
-    ensures low { result < 65536 }
+    ensures low { result < 262144 }
 {
     let mut hasher = DefaultHasher::new();
     endpoint.hash(&mut hasher);
@@ -88,7 +89,7 @@ pub(crate) fn endpoint_bucket(endpoint: &Endpoint) -> u32
 /// Where an entry is found by the connection of its replies.
 pub(crate) fn reply_place(entry: &Entry) -> Option<u32>
     ensures value { result ≡ spec.reply_place entry.now }
-    ensures low { IfSome result (λ place. place < 65536) }
+    ensures low { IfSome result (λ place. place < 262144) }
 {
     let reply = reply_of(entry)?;
     Some(connection_bucket(&reply))
@@ -97,7 +98,7 @@ pub(crate) fn reply_place(entry: &Entry) -> Option<u32>
 /// Where an entry of UDP is found by its endpoint.
 pub(crate) fn endpoint_place(entry: &Entry) -> Option<u32>
     ensures value { result ≡ spec.endpoint_place entry.now }
-    ensures low { IfSome result (λ place. place < 65536) }
+    ensures low { IfSome result (λ place. place < 262144) }
 {
     match entry.connection.proto {
         Proto::Udp => Some(endpoint_bucket(&entry.endpoint)),

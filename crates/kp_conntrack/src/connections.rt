@@ -148,7 +148,7 @@ impl Connections {
     /// What the first flow of a connection was answered, once it was heard of again.
     fn later(&mut self, connection: &Connection, bucket: u32) -> Option<Owned>
         requires bucket { bucket ≡ spec.connection_bucket connection.now }
-        requires low { bucket < 65536 }
+        requires low { bucket < 262144 }
         ensures answer { result
             ≡ option_map as_later (find (has_connection connection.now) self.old.entries) }
         ensures after { self.new ≡ with_found (has_connection connection.now) self.old }
@@ -168,7 +168,7 @@ impl Connections {
     /// The door of the first flow that a connection replies to, once it was heard of again.
     fn reply(&mut self, connection: &Connection, bucket: u32) -> Option<Owned>
         requires bucket { bucket ≡ spec.connection_bucket connection.now }
-        requires low { bucket < 65536 }
+        requires low { bucket < 262144 }
         ensures answer { result
             ≡ option_map as_door (find (is_replied_by connection.now) self.old.entries) }
         ensures after { self.new ≡ with_found (is_replied_by connection.now) self.old }

@@ -1,8 +1,11 @@
 -- What is counted of an endpoint once others came and went.
-use Rattle.std.proofs.Common.{◌≡◌, ℕ, ◌+◌, ◌-◌, ◌<◌, ◌≤◌, min, nat_le, Bool, true, false, true≢false, cond, List, [], ◌∷◌, count_by, length, take, Option, Some, None, is_some, Result, Ok, Err, OnErr, OnOk, IsOk, refl, sym, ap, ◌∙◌, arith, unwrap_or, sum_by}
+use Rattle.std.proofs.Common.{◌≡◌, ℕ, ◌+◌, ◌-◌, ◌<◌, ◌≤◌, min, nat_le, nat_lt, ◌==◌, ◌&&◌, Bool, true, false, true≢false, cond, List, [], ◌∷◌, count_by, length, take, Option, Some, None, is_some, Result, Ok, Err, OnErr, OnOk, IsOk, refl, sym, ap, subst, ◌∙◌, arith, unwrap_or, sum_by}
 use Rattle.std.specs.FinMap.{from_entries, get, get-empty, get-insert, get-remove, insert, remove}
 use Rattle.std.specs.Map.{lookup}
+use Rattle.std.specs.Ordering.{eq_by_cmp}
+use Rattle.std.proofs.Math.Bool.{and-false, and-true}
 use Rattle.std.proofs.lemmas.Bool.Decides.{nat_tests}
+use Rattle.std.proofs.lemmas.Option.{same_Some}
 use Rattle.std.proofs.lemmas.List.{length-take}
 use Rattle.std.proofs.lemmas.List.Sums.{count_by-le-length, sum_by-cons}
 use Rattle.kp_base.specs.declared.key.Endpoint.{Endpoint}
@@ -11,7 +14,7 @@ use Rattle.kp_base.specs.contracts.key.EndpointPartialEq.TheImpl as endpoint_eq
 use Rattle.kp_base.proofs.KeyOrder.{endpoint_ties, endpoint_total}
 use Rattle.kp_base.proofs.Maps.{lookup-get}
 use Rattle.kp_track_defs.specs.Stands.{is_endpoint}
-use Rattle.kp_udp_endpoints.specs.Counts.{Counts, count_of, one_fewer, one_more, with_new, without_gone}
+use Rattle.kp_udp_endpoints.specs.Counts.{AreDistinct, AreSound, Counts, NoneIsZero, count_of, fallen_of, one_fewer, one_more, with_new, without_gone}
 use Rattle.kp_udp_endpoints.proofs.Same.{exact, tie}
 
 pub more_of : (c : Counts) (e x : Endpoint)
@@ -79,6 +82,133 @@ all_fewer (e ∷ es) c x =
       sum_by-cons (λ y. cond (is_endpoint x y) 1 0) e es,
     )
 
+-- ---- Which ones fall
+
+-- whether all of some go
+abbrev pub falls : ℕ → ℕ → Bool
+falls n going = nat_lt 0 n && nat_le n going
+
+one_is : (n : ℕ) → (n == 1) ≡ true → (nat_lt 0 n ≡ true) × (nat_lt 0 (n - 1) ≡ false)
+one_is n is = (grind (arith, nat_tests), grind (arith, nat_tests))
+
+fits_one : (n going : ℕ) → (n == 1) ≡ true → nat_le n (1 + going) ≡ true
+fits_one n going is = grind (arith, nat_tests)
+
+less_lower : (n : ℕ) → (n == 1) ≡ false → nat_lt 0 (n - 1) ≡ nat_lt 0 n
+less_lower n is = by (nat_lt 0 n) refl
+  where
+    by : (b : Bool) → nat_lt 0 n ≡ b → nat_lt 0 (n - 1) ≡ b
+    by true low = grind (arith, nat_tests)
+    by false low = grind (arith, nat_tests)
+
+less_upper : (n going : ℕ) → nat_le (n - 1) going ≡ nat_le n (1 + going)
+less_upper n going = by (nat_le n (1 + going)) refl
+  where
+    by : (b : Bool) → nat_le n (1 + going) ≡ b → nat_le (n - 1) going ≡ b
+    by true fits = grind (arith, nat_tests)
+    by false fits = grind (arith, nat_tests)
+
+told_first : (n going : ℕ) (last : Bool) → (n == 1) ≡ last
+    → cond last 1 0 + cond (falls (n - 1) going) 1 0 ≡ cond (falls n (1 + going)) 1 0
+told_first n going true is =
+    ap (λ b. 1 + cond (b && nat_le (n - 1) going) 1 0) (one_is n is).1
+    ∙ sym (λ i. cond ((one_is n is).0 i && fits_one n going is i) 1 0)
+told_first n going false is =
+    omega arith ∙ (λ i. cond (less_lower n is i && less_upper n going i) 1 0)
+
+told_other : (n going : ℕ) → 0 + cond (falls (n - 0) going) 1 0 ≡ cond (falls n (0 + going)) 1 0
+told_other n going =
+    let same : n - 0 ≡ n = omega arith in
+    let none : 0 + going ≡ going = omega arith in
+    ap (λ k. 0 + cond (falls k going) 1 0) same
+    ∙ ap (λ k. 0 + cond (falls n k) 1 0) (sym none) ∙ omega arith
+
+told_next : (n going : ℕ) (same last : Bool) → (same ≡ true → (n == 1) ≡ last)
+    → cond (same && last) 1 0 + cond (falls (n - cond same 1 0) going) 1 0
+    ≡ cond (falls n (cond same 1 0 + going)) 1 0
+told_next n going true last is = told_first n going last (is refl)
+told_next n going false last is = told_other n going
+
+head_told : (x e : Endpoint) (last : Bool) (es : List Endpoint)
+    → count_by (is_endpoint x) (cond last (e ∷ es) es)
+    ≡ cond (is_endpoint x e && last) 1 0 + count_by (is_endpoint x) es
+head_told x e true es =
+    sum_by-cons (λ y. cond (is_endpoint x y) 1 0) e es
+    ∙ ap (λ b. cond b 1 0 + count_by (is_endpoint x) es) (sym (and-true (is_endpoint x e)))
+head_told x e false es =
+    let none : count_by (is_endpoint x) es ≡ 0 + count_by (is_endpoint x) es = omega arith in
+    none ∙ ap (λ b. cond b 1 0 + count_by (is_endpoint x) es) (sym (and-false (is_endpoint x e)))
+
+-- an endpoint is told to fall, once, exactly where all that are counted go
+pub told : (es : List Endpoint) (c : Counts) (x : Endpoint)
+    → count_by (is_endpoint x) (fallen_of es c)
+    ≡ cond (falls (count_of c x) (count_by (is_endpoint x) es)) 1 0
+told [] c x = by (nat_lt 0 (count_of c x)) refl
+  where
+    by : (b : Bool) → nat_lt 0 (count_of c x) ≡ b
+        → ◌≡◌ {A = ℕ} 0 (cond (b && nat_le (count_of c x) 0) 1 0)
+    by true some = ap (λ b. cond b 1 0) (sym (over some))
+      where
+        over : nat_lt 0 (count_of c x) ≡ true → nat_le (count_of c x) 0 ≡ false
+        over h = grind (arith, nat_tests)
+    by false none = refl
+told (e ∷ es) c x =
+    head_told x e (count_of c e == 1) (fallen_of es (one_fewer c e))
+    ∙ ap (λ n. cond (is_endpoint x e && (count_of c e == 1)) 1 0 + n)
+    (told es (one_fewer c e) x
+    ∙ ap (λ n. cond (falls n (count_by (is_endpoint x) es)) 1 0) (fewer_of c e x))
+    ∙ told_next (count_of c x) (count_by (is_endpoint x) es) (is_endpoint x e) (count_of c e == 1)
+    (λ same. ap (λ y. count_of c y == 1) (exact x e same))
+    ∙ ap (λ n. cond (falls (count_of c x) n) 1 0)
+    (sym (sum_by-cons (λ y. cond (is_endpoint x y) 1 0) e es))
+
+pub told_once : (es : List Endpoint) (c : Counts) → AreDistinct (fallen_of es c)
+told_once es c x = subst (λ n. n ≤ 1) (sym (told es c x)) (by (falls (count_of c x) (count_by (is_endpoint x) es)))
+  where
+    by : (b : Bool) → cond b 1 0 ≤ 1
+    by true = omega arith
+    by false = omega arith
+
+-- ---- No count is 0
+
+none_more : (c : Counts) (e : Endpoint) → NoneIsZero c → NoneIsZero (one_more c e)
+none_more c e none x h =
+    by (eq_by_cmp endpoint_cmp x e) (sym (get-insert endpoint_total c e (count_of c e + 1) x) ∙ h)
+  where
+    by : (b : Bool) → cond b (Some (count_of c e + 1)) (get c x) ≡ Some 0 → ⊥
+    by true h = omega (arith, same_Some (count_of c e + 1) 0 h)
+    by false h = none x h
+
+none_fewer : (c : Counts) (e : Endpoint) → NoneIsZero c → NoneIsZero (one_fewer c e)
+none_fewer c e none x h = by (nat_le (count_of c e) 1) refl h
+  where
+    removed : (b : Bool) → cond b None (get c x) ≡ Some 0 → ⊥
+    removed true h = true≢false (sym (ap is_some h))
+    removed false h = none x h
+
+    more : (n : ℕ) → nat_le n 1 ≡ false → 1 < n
+    more n h = grind (arith, nat_tests)
+
+    lowered : nat_le (count_of c e) 1 ≡ false → (b : Bool)
+        → cond b (Some (count_of c e - 1)) (get c x) ≡ Some 0 → ⊥
+    lowered few true h = omega (arith, same_Some (count_of c e - 1) 0 h, more (count_of c e) few)
+    lowered few false h = none x h
+
+    by : (few : Bool) → nat_le (count_of c e) 1 ≡ few
+        → get (cond few (remove c e) (insert c e (count_of c e - 1))) x ≡ Some 0 → ⊥
+    by true few h = removed (eq_by_cmp endpoint_cmp x e) (sym (get-remove endpoint_total c e x) ∙ h)
+    by false few h =
+        lowered few (eq_by_cmp endpoint_cmp x e)
+        (sym (get-insert endpoint_total c e (count_of c e - 1) x) ∙ h)
+
+none_of_more : (es : List Endpoint) (c : Counts) → NoneIsZero c → NoneIsZero (with_new es c)
+none_of_more [] c none = none
+none_of_more (e ∷ es) c none = none_of_more es (one_more c e) (none_more c e none)
+
+none_of_fewer : (es : List Endpoint) (c : Counts) → NoneIsZero c → NoneIsZero (without_gone es c)
+none_of_fewer [] c none = none
+none_of_fewer (e ∷ es) c none = none_of_fewer es (one_fewer c e) (none_fewer c e none)
+
 -- ---- Counts in a map
 
 -- what a look-up finds is the count
@@ -93,6 +223,11 @@ pub none_counted : (es : List (Endpoint × ℕ)) → es ≡ [] → (e : Endpoint
 none_counted es none e =
     ap (λ fs. count_of (from_entries fs) e) none
     ∙ ap (λ o. unwrap_or o 0) (get-empty endpoint_cmp e)
+
+pub none_kept : (es : List (Endpoint × ℕ)) → es ≡ [] → NoneIsZero (from_entries es)
+none_kept es none e h =
+    true≢false (sym (ap is_some
+    (sym (ap (λ fs. get (from_entries {R = endpoint_cmp} fs) e) none ∙ get-empty endpoint_cmp e) ∙ h)))
 
 -- of what has a count of more than 1 one is found
 pub found_more : (found : Option ℕ) → nat_le (unwrap_or found 0) 1 ≡ false → is_some found ≡ true
@@ -133,7 +268,7 @@ one_fits es k c m most e is below low =
     )
 
 -- so no count is greater than how many were ever counted
-pub still_low : (es fs : List Endpoint) (c m : Counts) (added now : ℕ)
+still_low : (es fs : List Endpoint) (c m : Counts) (added now : ℕ)
     → m ≡ without_gone fs (with_new es c) → ((x : Endpoint) → count_of c x ≤ added)
     → now ≡ added + length es → (e : Endpoint) → count_of m e ≤ now
 still_low es fs c m added now is low sum e =
@@ -146,3 +281,14 @@ still_low es fs c m added now is low sum e =
       low e,
       sum,
     )
+
+-- and what is kept stays sound
+pub still_sound : (es fs : List Endpoint) (c m : Counts) (added now : ℕ)
+    → m ≡ without_gone fs (with_new es c) → AreSound c added → now ≡ added + length es
+    → AreSound m now
+still_sound es fs c m added now is sound sum = record {
+  none =
+      subst NoneIsZero (sym is)
+      (none_of_fewer fs (with_new es c) (none_of_more es c sound.none));
+  low = still_low es fs c m added now is sound.low sum;
+}

@@ -1,3 +1,4 @@
+pub mod Apart
 pub mod Counting
 pub mod Fallen
 pub mod Followed

@@ -39,13 +39,8 @@ use Rattle.kp_history_laws.specs.EventLaws.{has_port}
 use Rattle.kp_history_laws.proofs.DirtyPorts.{infos_exact}
 use Rattle.kp_port_by_key.proofs.Sparse.{sparse, tells}
 use Rattle.kp_track_defs.specs.Stands.{is_endpoint}
+use Rattle.kp_udp_endpoints.specs.Changed.{AreKept}
 use Rattle.kp_udp_endpoints.specs.Endpoints.{dirty_in, gone_of, listed_if, listed_in, lists_with, new_of, udp_listed}
-
--- As many as these are counted of lists that stay, beside those that went and those that are new.
-pub record AreKept (was now gone new : ℕ) : Type 0 where
-  pub kept : ℕ
-  pub before : was ≡ kept + gone
-  pub after : now ≡ kept + new
 
 -- the names of all ports, as often as they are given
 abbrev names : Objects → List PortKey

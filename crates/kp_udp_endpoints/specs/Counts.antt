@@ -1,5 +1,5 @@
 -- How many lists of UDP ports have each endpoint.
-use Rattle.std.specs.Prelude.{◌≡◌, ℕ, ◌+◌, ◌-◌, ◌==◌, ◌&&◌, nat_le, List, not, cond, unwrap_or}
+use Rattle.std.specs.Prelude.{◌≡◌, ◌≢◌, ℕ, ◌+◌, ◌-◌, ◌==◌, ◌≤◌, ◌&&◌, nat_le, List, [], ◌∷◌, not, cond, count_by, Some, unwrap_or}
 use Rattle.std.specs.FinMap as finite
 use Rattle.std.specs.List.{fold, list_any}
 use Rattle.kp_base.specs.Keys.{endpoint_cmp}
@@ -36,6 +36,25 @@ with_new es c = fold one_more c es
 -- and once these went
 abbrev pub without_gone : List Endpoint → Counts → Counts
 without_gone es c = fold one_fewer c es
+
+-- of these those of which the last one goes, in their order
+abbrev pub fallen_of : List Endpoint → Counts → List Endpoint
+fallen_of [] c = []
+fallen_of (e ∷ es) c =
+    cond (count_of c e == 1) (e ∷ fallen_of es (one_fewer c e)) (fallen_of es (one_fewer c e))
+
+-- what isn't there has no count
+abbrev pub NoneIsZero : Counts → Type 0
+NoneIsZero c = (e : Endpoint) → finite.get c e ≢ Some 0
+
+-- what is kept: no count is 0, and none is greater than how many were ever counted
+pub record AreSound (c : Counts) (added : ℕ) : Type 0 where
+  pub none : NoneIsZero c
+  pub low : (e : Endpoint) → count_of c e ≤ added
+
+-- none of these is given twice
+abbrev pub AreDistinct : List Endpoint → Type 0
+AreDistinct es = (e : Endpoint) → count_by (is_endpoint e) es ≤ 1
 
 -- as many are counted of each endpoint as the objects have lists with it
 abbrev pub AreCounted : Config → Objects → Counts → Type 0

@@ -1,7 +1,6 @@
 //! How many lists have each endpoint.
-ghost use Rattle.std.specs.Prelude.{◌≡◌, ◌+◌, ◌^◌, ◌<◌, ◌≤◌, ◌==◌, List, length, IfOk, OnErr, OnOk};
+ghost use Rattle.std.specs.Prelude.{◌≡◌, ◌++◌, ◌+◌, ◌^◌, ◌<◌, ◌≤◌, ◌==◌, List, length, vec_capacity, vec_len, IfOk, OnErr, OnOk};
 ghost use Rattle.std.specs.FinMap.{from_entries};
-ghost use Rattle.std.specs.List.{filter};
 ghost use Rattle.indexmap.specs.IndexMap.{spare};
 ghost use Rattle.kp_base.specs.Keys.{endpoint_cmp};
 ghost use Rattle.kp_base.specs.declared.config.Config.{Config as ConfigParts};
@@ -9,7 +8,7 @@ ghost use Rattle.kp_base.specs.declared.key.Endpoint.{Endpoint as EndpointParts}
 ghost use Rattle.kp_object_defs.specs.Objects as cluster;
 ghost use Rattle.kp_udp_endpoints.specs.Counts as spec;
 
-use crate::changed::{push_gone, push_new};
+use crate::changed::Changed;
 use indexmap::IndexMap;
 use kp_base::{Config, Endpoint, Family, NoMemory};
 use kp_history_defs::DirtyPort;
@@ -32,13 +31,11 @@ impl Drop for EndpointCounts {
 }
 
 impl Model for EndpointCounts {
-    ghost use Rattle.std.specs.Prelude.{◌≤◌};
     ghost use Rattle.std.specs.Coded.{coded_ℕ};
     ghost use Rattle.std.specs.FinMap as finite;
     ghost use Rattle.kp_base.specs.Keys.{endpoint_cmp};
     ghost use Rattle.kp_base.specs.contracts.key.Endpoint as endpoint_row;
-    ghost use Rattle.kp_base.specs.declared.key.Endpoint.{Endpoint as EndpointParts};
-    ghost use Rattle.kp_udp_endpoints.specs.Counts.{Counts, count_of};
+    ghost use Rattle.kp_udp_endpoints.specs.Counts.{AreSound, Counts};
 
     ghost Value = { Counts };
 
@@ -46,14 +43,16 @@ impl Model for EndpointCounts {
 
     ghost view = { λ c. finite.from_entries {R = endpoint_cmp} c.counts.entries };
 
-    ghost invariant = { λ c. (e : EndpointParts)
-        → count_of (finite.from_entries {R = endpoint_cmp} c.counts.entries) e ≤ c.added };
+    ghost invariant = { λ c. AreSound (finite.from_entries {R = endpoint_cmp} c.counts.entries)
+        c.added };
 }
 
 impl EndpointCounts {
     /// The counts without any object.
     pub fn new(alloc: Global) -> EndpointCounts
-        ensures { (config : ConfigParts) → spec.AreCounted config cluster.no_objects result }
+        ensures counted { (config : ConfigParts)
+            → spec.AreCounted config cluster.no_objects result }
+        ensures none { spec.NoneIsZero result }
     {
         EndpointCounts {
             counts: IndexMap::new(alloc),
@@ -63,7 +62,7 @@ impl EndpointCounts {
 
     /// Follows a sync by the ports of which each family knows something else than before it: what
     /// was known of them is told with each, and what is known now is asked of the objects. Tells the
-    /// endpoints that fell to none. Without memory all stays.
+    /// endpoints that fell to none, each once. Without memory all stays.
     pub fn follow(
         &mut self,
         alloc: Global,
@@ -79,51 +78,43 @@ impl EndpointCounts {
             → spec.IsFollowed config.now before objects.now four.now six.now self.old
             → IfOk result (λ fallen.
             spec.HaveFallen config.now before objects.now fallen.items) }
+        ensures once { IfOk result (λ fallen. spec.AreDistinct fallen.items) }
+        ensures none { OnOk result (spec.NoneIsZero self.new) }
         ensures stays { OnErr result (self.new ≡ self.old) }
     {
         kp_object_laws::ports_by_key();
         kp_history_laws::infos_by_name();
-        let mut new = Vec::new(alloc);
-        push_new(alloc, Family::V4, config, objects, four, &mut new)?;
-        push_new(alloc, Family::V6, config, objects, six, &mut new)?;
-        let mut gone = Vec::new(alloc);
-        push_gone(four, &mut gone)?;
-        push_gone(six, &mut gone)?;
-        self.change(new.as_slice(), gone.as_slice())?;
-        self.keep_fallen(&mut gone);
-        Ok(gone)
+        let mut changed = Changed::new(alloc);
+        changed.push_ports(alloc, Family::V4, config, objects, four)?;
+        changed.push_ports(alloc, Family::V6, config, objects, six)?;
+        let fallen = self.change(alloc, changed.came.as_slice(), changed.went.as_slice())?;
+        Ok(fallen)
     }
 
-    /// Counts endpoints that came and others that went, one for each time that it is given. There is
-    /// room for all before any is counted.
-    fn change(&mut self, new: &[Endpoint], gone: &[Endpoint]) -> Result<(), NoMemory>
+    /// Counts endpoints that came and others that went, one for each time that it is given. Tells
+    /// those that fell to none. There is room for all before any is counted.
+    fn change(
+        &mut self,
+        alloc: Global,
+        came: &[Endpoint],
+        went: &[Endpoint],
+    ) -> Result<Vec<Endpoint>, NoMemory>
         ensures counts { OnOk result (self.new
-            ≡ spec.without_gone gone.now (spec.with_new new.now self.old)) }
+            ≡ spec.without_gone went.now (spec.with_new came.now self.old)) }
+        ensures fallen { IfOk result (λ fallen. fallen.items
+            ≡ spec.fallen_of went.now (spec.with_new came.now self.old)) }
+        ensures none { OnOk result (spec.NoneIsZero self.new) }
         ensures stays { OnErr result (self.new ≡ self.old) }
     {
-        let Some(added) = self.added.checked_add(new.len() as u64) else {
+        let Some(added) = self.added.checked_add(came.len() as u64) else {
             return Err(NoMemory::beyond_counts());
         };
-        self.counts.reserve(new.len())?;
+        let mut fallen = Vec::with_capacity(alloc, went.len())?;
+        self.counts.reserve(came.len())?;
         self.added = added;
-        add_all(&mut self.counts, new);
-        take_all(&mut self.counts, gone);
-        Ok(())
-    }
-
-    /// Leaves the endpoints of which there is none.
-    fn keep_fallen(&self, endpoints: &mut Vec<Endpoint>)
-        ensures { endpoints.new.items
-            ≡ filter (λ e. spec.count_of self.now e == 0) endpoints.old.items }
-    {
-        endpoints.retain(|endpoint| self.count(endpoint) == 0);
-    }
-
-    /// How many there are of an endpoint.
-    fn count(&self, endpoint: &Endpoint) -> u64
-        ensures { result ≡ spec.count_of self.now endpoint.now }
-    {
-        count_in(&self.counts, endpoint)
+        add_all(&mut self.counts, came);
+        take_all(&mut self.counts, went, &mut fallen);
+        Ok(fallen)
     }
 }
 
@@ -140,13 +131,22 @@ fn add_all(counts: &mut IndexMap<Endpoint, u64>, endpoints: &[Endpoint])
     }
 }
 
-/// Takes endpoints from the counts.
-fn take_all(counts: &mut IndexMap<Endpoint, u64>, endpoints: &[Endpoint])
-    ensures { from_entries {R = endpoint_cmp} counts.new.entries
+/// Takes endpoints from the counts, and adds those that fell to none, for which there is room.
+fn take_all(
+    counts: &mut IndexMap<Endpoint, u64>,
+    endpoints: &[Endpoint],
+    fallen: &mut Vec<Endpoint>,
+)
+    requires room { vec_len fallen.old + length endpoints.now ≤ vec_capacity fallen.old }
+    ensures counts { from_entries {R = endpoint_cmp} counts.new.entries
         ≡ spec.without_gone endpoints.now (from_entries counts.old.entries) }
+    ensures fallen { fallen.new.items ≡ fallen.old.items
+        ++ spec.fallen_of endpoints.now (from_entries counts.old.entries) }
 {
     for endpoint in endpoints {
-        take(counts, endpoint);
+        if take(counts, endpoint) {
+            fallen.push_reserved(*endpoint);
+        }
     }
 }
 
@@ -162,16 +162,19 @@ fn add(counts: &mut IndexMap<Endpoint, u64>, endpoint: &Endpoint)
     let _ = counts.insert(*endpoint, count + 1);
 }
 
-/// One fewer of an endpoint: what falls to none has no count.
-fn take(counts: &mut IndexMap<Endpoint, u64>, endpoint: &Endpoint)
-    ensures { from_entries {R = endpoint_cmp} counts.new.entries
+/// One fewer of an endpoint, and whether it was the last: what falls to none has no count.
+fn take(counts: &mut IndexMap<Endpoint, u64>, endpoint: &Endpoint) -> bool
+    ensures counts { from_entries {R = endpoint_cmp} counts.new.entries
         ≡ spec.one_fewer (from_entries counts.old.entries) endpoint.now }
+    ensures last { result ≡ (spec.count_of (from_entries counts.old.entries) endpoint.now == 1) }
 {
     let count = count_in(counts, endpoint);
     if count <= 1 {
         counts.swap_remove(endpoint);
+        count == 1
     } else {
         let _ = counts.insert(*endpoint, count - 1);
+        false
     }
 }
 

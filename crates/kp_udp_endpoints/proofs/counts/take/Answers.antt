@@ -8,8 +8,8 @@ use Rattle.kp_udp_endpoints.specs.Counts.{count_of}
 use Rattle.kp_udp_endpoints.proofs.Counting.{counted, few_left, found_more, more_left, since_found}
 use Rattle.kp_udp_endpoints.proofs.counts.take.Goals as goal
 
-pub returns-then-count-le1 : goal.returns-then-count-le1
-returns-then-count-le1 c =
+pub returns-then-count-le1-clause-counts : goal.returns-then-count-le1-clause-counts
+returns-then-count-le1-clause-counts c =
     let es = c.args.counts.now.entries in
     let e = c.args.endpoint.now in
     removed endpoint_total endpoint_ties endpoint_exact es c.swap_remove.new.self.entries e c.swap_remove.ensures.updates.0
@@ -17,8 +17,8 @@ returns-then-count-le1 c =
     (λ b. cond b (remove (from_entries es) e) (insert (from_entries es) e (count_of (from_entries es) e - 1)))
     (few_left c.count_in-count.result _ c.count_in-count.ensures c.if-count-le1.true))
 
-pub returns-else-count-le1 : goal.returns-else-count-le1
-returns-else-count-le1 c =
+pub returns-else-count-le1-clause-counts : goal.returns-else-count-le1-clause-counts
+returns-else-count-le1-clause-counts c =
     let es = c.args.counts.now.entries in
     let e = c.args.endpoint.now in
     let found = lookup (endpoint_eq.ghosts.eq e) es in

@@ -1,9 +1,0 @@
-use Rattle.std.proofs.Common.{◌≡◌, ◌++◌, take}
-use Rattle.std.specs.List.{flat_map}
-use Rattle.kp_udp_endpoints.specs.Endpoints.{gone_of}
-use Rattle.kp_udp_endpoints.proofs.changed.push_gone.Given as goal
-
--- the endpoints of the ports so far are added
-abbrev pub invariant-loop-port : goal.invariant-loop-port
-invariant-loop-port l =
-    l.endpoints.items ≡ l.initial.endpoints.items ++ flat_map gone_of (take l.port-index l.dirty)
