@@ -1,18 +1,16 @@
--- The chains of a section in order, with what its edits say of each.
-use Rattle.std.proofs.Common.{◌≡◌, ℕ, Bool, true, false, cond, not, ◌&&◌, ◌||◌, ◌==◌, List, [], ◌∷◌, ◌++◌, bytes_eq, refl, sym, ap, subst, ◌∙◌}
-use Rattle.std.specs.Ordering.{nat_cmp, is_lt, ordering_reverse, ordering_then}
-use Rattle.std.specs.Cmp.{nat_cmp_total}
+-- Edits of one table and the rows of its section.
+use Rattle.std.proofs.Common.{◌≡◌, Bool, true, false, cond, not, ◌&&◌, ◌||◌, List, [], ◌∷◌, ◌++◌, bytes_eq, refl, sym, ap, subst, ◌∙◌}
+use Rattle.std.specs.Ordering.{is_lt, ordering_reverse}
 use Rattle.std.specs.declared.cmp.Ordering.{Ordering}
 use Rattle.std.specs.declared.cmp.Ordering.TheVariants.{Less, Equal, Greater}
-use Rattle.std.specs.FinMap.Entries.{by_order}
-use Rattle.std.specs.List.{list_all, flat_map}
-use Rattle.std.proofs.lemmas.Bool.{and_parts, and_from, false≢true, eqb-true}
-use Rattle.std.proofs.lemmas.Cmp.{tied_itself}
-use Rattle.std.proofs.lemmas.List.Folds.{list_all-append}
+use Rattle.std.specs.List.{list_all, flat_map, AllByRecursion}
+use Rattle.std.proofs.lemmas.Bool.{and_parts, and_from, false≢true}
 use Rattle.std.specs.Cmp.Lexicographic.{nat_list_cmp_total, nat_list_eq_equiv}
 use Rattle.std.specs.FinMap.{nat_cmp-IsAntisymmetric, slice_cmp-IsAntisymmetric}
 use Rattle.kp_base.specs.Keys.{text_cmp}
-use Rattle.kp_types.specs.Places.{table_place}
+use Rattle.kp_base.specs.declared.address.Family.{Family}
+use Rattle.kp_types.specs.Chains.{is_chain_name}
+use Rattle.kp_types.specs.Edits.{is_edit_in}
 use Rattle.kp_types.specs.declared.chain.TableName.{TableName}
 use Rattle.kp_types.specs.declared.chain.ChainAt.{ChainAt}
 use Rattle.kp_types.specs.declared.rule.Rule.{Rule}
@@ -20,231 +18,197 @@ use Rattle.kp_types.specs.declared.rule.Edit.{Edit}
 use Rattle.kp_types.specs.declared.rule.Edit.TheVariants.{Write, Remove}
 use Rattle.kp_object_defs.specs.Desired.{is_empty}
 use Rattle.kp_table_defs.specs.Ranks.{is_built_in}
-use Rattle.kp_restore_defs.specs.BatchText.{place_of, edit_cmp, are_in_order, is_same_place, edit_each_once}
+use Rattle.kp_restore_defs.specs.RuleText.{is_canonical_rule}
+use Rattle.kp_restore_defs.specs.BatchText.{place_of, has_canonical_rules}
 use Rattle.kp_restore.specs.Steps.{written, removed, edits_of}
 use Rattle.kp_restore.specs.declared.section.Row.{Row}
-use Rattle.kp_restore.proofs.Tests.{all_both, none_of}
-use Rattle.kp_lemmas.proofs.ListFacts.{test_weaker}
-use Rattle.kp_lemmas.proofs.Orders.{less_from_test, less_through}
-use Rattle.kp_types.proofs.ChainOrder.{one_table_from_test}
+use Rattle.kp_restore.proofs.BatchEdits.{IsGoodIn, IsPart, StandsBefore, from_near, near}
+use Rattle.kp_restore.proofs.Families.{IsTableOf}
+use Rattle.kp_restore.proofs.Pairs.{EachPair, pairs_insert}
+use Rattle.kp_restore.proofs.SectionShapes.{is_good}
+use Rattle.kp_lemmas.proofs.ListFacts.{all_append, all_both, all_weaker}
+use Rattle.kp_lemmas.proofs.Orders.{less_through, lesser_text_differs}
 
--- ---- The order of names
+-- a chain stands behind another
+abbrev pub IsBelow : Row → Row → Type 0
+IsBelow r s = is_lt (text_cmp r.chain s.chain) ≡ true
 
-greater_turned : (a b : List ℕ) → text_cmp a b ≡ Greater → is_lt (text_cmp b a) ≡ true
-greater_turned a b e = ap is_lt (nat_list_cmp_total.antisymm b a ∙ ap ordering_reverse e)
-
-pub less_turned : (a b : List ℕ) → is_lt (text_cmp a b) ≡ true → text_cmp b a ≡ Greater
-less_turned a b h = nat_list_cmp_total.antisymm b a ∙ ap ordering_reverse (less_from_test (text_cmp a b) h)
-
--- ---- Rows of edits
-
--- what an edit says of its chain
-abbrev pub row_of : Edit → Row
-row_of (Write at rules) = record { chain = at.chain; rules = rules; removed = false }
-row_of (Remove at) = record { chain = at.chain; rules = []; removed = true }
-
--- the rows with one more in its place
-abbrev pub put_row : Row → List Row → List Row
-put_row r [] = r ∷ []
-put_row r (s ∷ rows) = by_order (text_cmp r.chain s.chain) (r ∷ s ∷ rows) (record r { chain = s.chain } ∷ rows) (s ∷ put_row r rows)
-
--- the rows of edits, in order
-abbrev pub rows_of : List Edit → List Row
-rows_of [] = []
-rows_of (e ∷ es) = put_row (row_of e) (rows_of es)
-
--- a chain stands behind a name
-abbrev pub is_below : List ℕ → Row → Bool
-is_below chain row = is_lt (text_cmp chain row.chain)
-
--- rows in order
-abbrev pub rising : List Row → Bool
-rising [] = true
-rising (r ∷ rows) = list_all (is_below r.chain) rows && rising rows
-
--- a chain that isn't built in, without rules if it is removed
+-- a chain that may be edited: one that isn't built in, without rules if it is removed
 abbrev pub fits : TableName → Row → Bool
 fits table row = not (is_built_in table row.chain) && (not row.removed || is_empty row.rules)
 
-pub below_all : (a b : List ℕ) (rows : List Row) → is_lt (text_cmp a b) ≡ true → list_all (is_below b) rows ≡ true → list_all (is_below a) rows ≡ true
-below_all a b rows h = test_weaker (is_below b) (is_below a) (λ s k. less_through nat_list_cmp_total a b s.chain h k) rows
+-- rows of the section of a table in a batch
+pub record IsRows (family : Family) (t : TableName) (rows : List Row) : Type 0 where
+  pub rise : EachPair IsBelow rows
+  pub fit : AllByRecursion (λ r. (fits t r ≡ true) × (is_good family r ≡ true)) rows
 
-all_put : (p : Row → Bool) → ((r s : Row) → p r ≡ true → p s ≡ true → p (record r { chain = s.chain }) ≡ true) → (r : Row) (rows : List Row) → p r ≡ true → list_all p rows ≡ true → list_all p (put_row r rows) ≡ true
-all_put p f r [] h all = and_from _ _ h refl
-all_put p f r (s ∷ rows) h all = by (text_cmp r.chain s.chain) (and_parts _ _ all) (all_put p f r rows h (and_parts _ _ all).1)
-  where
-    by : (o : Ordering) → (p s ≡ true) × (list_all p rows ≡ true) → list_all p (put_row r rows) ≡ true → list_all p (by_order o (r ∷ s ∷ rows) (record r { chain = s.chain } ∷ rows) (s ∷ put_row r rows)) ≡ true
-    by Less k rest = and_from _ _ h (and_from _ _ k.0 k.1)
-    by Equal k rest = and_from _ _ (f r s h k.0) k.1
-    by Greater k rest = and_from _ _ k.0 rest
+below_all : (r s : Row) (rows : List Row) → IsBelow r s → AllByRecursion (IsBelow s) rows → AllByRecursion (IsBelow r) rows
+below_all r s rows l = all_weaker (IsBelow s) (IsBelow r) (λ x k. less_through nat_list_cmp_total r.chain s.chain x.chain l k) rows
 
-pub all_rows_of : (p : Row → Bool) → ((r s : Row) → p r ≡ true → p s ≡ true → p (record r { chain = s.chain }) ≡ true) → (es : List Edit) → list_all (λ e. p (row_of e)) es ≡ true → list_all p (rows_of es) ≡ true
-all_rows_of p f [] h = refl
-all_rows_of p f (e ∷ es) h = let k = and_parts _ _ h in all_put p f (row_of e) (rows_of es) k.0 (all_rows_of p f es k.1)
+module _ (t : TableName) where
+  -- the write of a chain, and its remove
+  abbrev pub write_of : Row → Edit
+  write_of row = Write (record { table = t; chain = row.chain }) row.rules
 
-rising_put : (r : Row) (rows : List Row) → rising rows ≡ true → rising (put_row r rows) ≡ true
-rising_put r [] h = refl
-rising_put r (s ∷ rows) h = by (text_cmp r.chain s.chain) refl (and_parts _ _ h) (rising_put r rows (and_parts _ _ h).1)
-  where
-    by : (o : Ordering) → text_cmp r.chain s.chain ≡ o → (list_all (is_below s.chain) rows ≡ true) × (rising rows ≡ true) → rising (put_row r rows) ≡ true
-        → rising (by_order o (r ∷ s ∷ rows) (record r { chain = s.chain } ∷ rows) (s ∷ put_row r rows)) ≡ true
-    by Less e k rest = and_from _ _ (and_from _ _ (ap is_lt e) (below_all r.chain s.chain rows (ap is_lt e) k.0)) (and_from _ _ k.0 k.1)
-    by Equal e k rest = and_from _ _ k.0 k.1
-    by Greater e k rest = and_from _ _ (all_put (is_below s.chain) (λ a b g h. h) r rows (greater_turned r.chain s.chain e) k.0) rest
+  abbrev pub remove_of : Row → Edit
+  remove_of row = Remove (record { table = t; chain = row.chain })
 
-pub rising_rows_of : (es : List Edit) → rising (rows_of es) ≡ true
-rising_rows_of [] = refl
-rising_rows_of (e ∷ es) = rising_put (row_of e) (rows_of es) (rising_rows_of es)
+  -- what holds of the write of a row, or of its remove
+  abbrev Says : (Edit → Type 0) → (Edit → Type 0) → Row → Type 0
+  Says P Q row = (row.removed ≡ false → P (write_of row)) × (row.removed ≡ true → Q (remove_of row))
 
--- a row that stands before all others
-pub put_first : (r : Row) (rows : List Row) → list_all (is_below r.chain) rows ≡ true → put_row r rows ≡ r ∷ rows
-put_first r [] h = refl
-put_first r (s ∷ rows) h =
-    ap (λ o. by_order o (r ∷ s ∷ rows) (record r { chain = s.chain } ∷ rows) (s ∷ put_row r rows)) (less_from_test (text_cmp r.chain s.chain) (and_parts _ _ h).0)
+  pub said : (P Q : Edit → Type 0) (rows : List Row) → AllByRecursion (Says P Q) rows → AllByRecursion P (flat_map (written t) rows) × AllByRecursion Q (flat_map (removed t) rows)
+  said P Q [] a = (tt, tt)
+  said P Q (r ∷ rows) a =
+      let rest = said P Q rows a.1 in
+      elim r.removed as (λ b. ((b ≡ false → P (write_of r)) × (b ≡ true → Q (remove_of r)))
+      → AllByRecursion P (cond b [] (write_of r ∷ []) ++ flat_map (written t) rows) × AllByRecursion Q (cond b (remove_of r ∷ []) [] ++ flat_map (removed t) rows)) [
+        | true ↦ λ s. (rest.0, (s.1 refl, rest.1))
+        | false ↦ λ s. ((s.0 refl, rest.0), rest.1)
+      ] a.0
 
--- ---- Edits of rows
+  -- and the other way
+  told : (P : Edit → Type 0) (rows : List Row) → AllByRecursion P (edits_of t rows) → AllByRecursion (Says P P) rows
+  told P [] a = tt
+  told P (r ∷ rows) a =
+      elim r.removed as (λ b. AllByRecursion P ((cond b [] (write_of r ∷ []) ++ flat_map (written t) rows) ++ (cond b (remove_of r ∷ []) [] ++ flat_map (removed t) rows))
+      → ((b ≡ false → P (write_of r)) × (b ≡ true → P (remove_of r))) × AllByRecursion (Says P P) rows) [
+        | true ↦ λ a. let k = all_without (flat_map (written t) rows) (remove_of r) (flat_map (removed t) rows) a in ((λ e. absurd (false≢true (sym e)), λ e. k.0), told P rows k.1)
+        | false ↦ λ a. ((λ e. a.0, λ e. absurd (false≢true e)), told P rows a.1)
+      ] a
+    where
+      all_without : (xs : List Edit) (y : Edit) (ys : List Edit) → AllByRecursion P (xs ++ y ∷ ys) → P y × AllByRecursion P (xs ++ ys)
+      all_without [] y ys a = a
+      all_without (x ∷ xs) y ys a = let k = all_without xs y ys a.1 in (k.0, (a.0, k.1))
 
--- the write of a chain
-abbrev pub write_of : TableName → Row → Edit
-write_of table row = Write (record { table = table; chain = row.chain }) row.rules
+  -- ---- The edits of rows
 
--- its remove
-abbrev pub remove_of : TableName → Row → Edit
-remove_of table row = Remove (record { table = table; chain = row.chain })
+  less_apart : (r s : Row) → IsBelow r s → bytes_eq s.chain r.chain ≡ false
+  less_apart r s l = nat_list_eq_equiv.symm s.chain r.chain ∙ lesser_text_differs r.chain s.chain l
 
-pub all_written : (p : Edit → Bool) (t : TableName) (rows : List Row) → list_all p (flat_map (written t) rows) ≡ list_all (λ s. s.removed || p (write_of t s)) rows
-all_written p t [] = refl
-all_written p t (s ∷ rows) =
-    elim s.removed as (λ b. list_all p (cond b [] (write_of t s ∷ []) ++ flat_map (written t) rows) ≡ ((b || p (write_of t s)) && list_all (λ s. s.removed || p (write_of t s)) rows)) [
-      | true ↦ all_written p t rows
-      | false ↦ ap (λ x. p (write_of t s) && x) (all_written p t rows)
-    ]
+  rows_pairs : (rows : List Row) → EachPair IsBelow rows → EachPair StandsBefore (edits_of t rows)
+  rows_pairs [] p = tt
+  rows_pairs (r ∷ rows) p =
+      let rest = rows_pairs rows p.1 in
+      let W = flat_map (written t) rows in
+      let X = flat_map (removed t) rows in
+      let writes = said (StandsBefore (write_of r)) (StandsBefore (write_of r)) rows
+      (all_weaker (IsBelow r) (Says (StandsBefore (write_of r)) (StandsBefore (write_of r)))
+      (λ s l. (λ e. from_near (write_of r) (write_of s) refl (l, lesser_text_differs r.chain s.chain l), λ e. from_near (write_of r) (remove_of s) refl (refl, lesser_text_differs r.chain s.chain l))) rows p.0) in
+      let removes = said (λ w. StandsBefore w (remove_of r)) (StandsBefore (remove_of r)) rows
+      (all_weaker (IsBelow r) (Says (λ w. StandsBefore w (remove_of r)) (StandsBefore (remove_of r)))
+      (λ s l. (λ e. from_near (write_of s) (remove_of r) refl (refl, less_apart r s l), λ e. from_near (remove_of r) (remove_of s) refl (l, lesser_text_differs r.chain s.chain l))) rows p.0) in
+      elim r.removed as (λ b. EachPair StandsBefore ((cond b [] (write_of r ∷ []) ++ W) ++ (cond b (remove_of r ∷ []) [] ++ X))) [
+        | true ↦ pairs_insert StandsBefore W X (remove_of r) rest removes.0 removes.1
+        | false ↦ (all_append (StandsBefore (write_of r)) W X writes.0 writes.1, rest)
+      ]
 
-pub all_removed : (p : Edit → Bool) (t : TableName) (rows : List Row) → list_all p (flat_map (removed t) rows) ≡ list_all (λ s. not s.removed || p (remove_of t s)) rows
-all_removed p t [] = refl
-all_removed p t (s ∷ rows) =
-    elim s.removed as (λ b. list_all p (cond b (remove_of t s ∷ []) [] ++ flat_map (removed t) rows) ≡ ((not b || p (remove_of t s)) && list_all (λ s. not s.removed || p (remove_of t s)) rows)) [
-      | true ↦ ap (λ x. p (remove_of t s) && x) (all_removed p t rows)
-      | false ↦ all_removed p t rows
-    ]
+  module _ (family : Family) where
+    good_edits : IsTableOf family t → (row : Row) → (fits t row ≡ true) × (is_good family row ≡ true) → Says (IsGoodIn family t) (IsGoodIn family t) row
+    good_edits of row g =
+        let k = and_parts (not (is_built_in t row.chain)) (not row.removed || is_empty row.rules) g.0 in
+        let l = and_parts (is_chain_name row.chain) (list_all (is_canonical_rule family) row.rules) g.1 in
+        (λ e. (refl, and_from _ _ of (and_from _ _ l.0 (and_from _ _ k.0 l.1))), λ e. (refl, and_from _ _ of (and_from _ _ l.0 (and_from _ _ k.0 refl))))
 
--- what holds of the edits of rows, by row
-pub edits_all : (p : Edit → Bool) (t : TableName) (rows : List Row) → list_all (λ s. s.removed || p (write_of t s)) rows ≡ true → list_all (λ s. not s.removed || p (remove_of t s)) rows ≡ true → list_all p (edits_of t rows) ≡ true
-edits_all p t rows g h =
-    list_all-append p (flat_map (written t) rows) (flat_map (removed t) rows) ∙ and_from _ _ (all_written p t rows ∙ g) (all_removed p t rows ∙ h)
+    pub edits_part : IsTableOf family t → (rows : List Row) → IsRows family t rows → IsPart family t (edits_of t rows)
+    edits_part of rows i =
+        let all = said (IsGoodIn family t) (IsGoodIn family t) rows (all_weaker _ (Says (IsGoodIn family t) (IsGoodIn family t)) (good_edits of) rows i.fit) in
+        (all_append (IsGoodIn family t) (flat_map (written t) rows) (flat_map (removed t) rows) all.0 all.1, rows_pairs rows i.rise)
 
-pub all_edits : (p : Edit → Bool) (t : TableName) (rows : List Row) → list_all p (edits_of t rows) ≡ true → (list_all (λ s. s.removed || p (write_of t s)) rows ≡ true) × (list_all (λ s. not s.removed || p (remove_of t s)) rows ≡ true)
-all_edits p t rows h =
-    let k = and_parts _ _ (sym (list_all-append p (flat_map (written t) rows) (flat_map (removed t) rows)) ∙ h) in
-    (sym (all_written p t rows) ∙ k.0, sym (all_removed p t rows) ∙ k.1)
+  -- ---- The rows of edits
 
--- ---- Edits of one table are those of their rows
+  -- the rows with one more that is written, in its place
+  record Put (r : Row) (rows : List Row) : Type 1 where
+    all : List Row
+    writes : flat_map (written t) all ≡ written t r ++ flat_map (written t) rows
+    removes : flat_map (removed t) all ≡ flat_map (removed t) rows
+    rise : EachPair IsBelow all
+    keeps : (P : Row → Type 0) → P r → AllByRecursion P rows → AllByRecursion P all
 
--- an edit of a table
-abbrev pub is_in : TableName → Edit → Bool
-is_in table e = table_place (place_of e).table == table_place table
+  -- a chain that the write of another may stand before
+  abbrev Admits : Row → Row → Type 0
+  Admits r s = (bytes_eq r.chain s.chain ≡ false) × (s.removed ≡ false → IsBelow r s)
 
-tied : (x y : ℕ) → (x == y) ≡ true → nat_cmp x y ≡ Equal
-tied x y h = ap (nat_cmp x) (sym (eqb-true x y h)) ∙ tied_itself nat_cmp_total x
+  put : (r : Row) (rows : List Row) → r.removed ≡ false → EachPair IsBelow rows → AllByRecursion (Admits r) rows → Put r rows
+  put r [] kept p a = record { all = r ∷ []; writes = refl; removes = ap (λ b. cond b (remove_of r ∷ []) [] ++ []) kept; rise = (tt, tt); keeps = λ P x y. (x, tt) }
+  put r (s ∷ rows) kept p a = by (text_cmp r.chain s.chain) refl (put r rows kept p.1 a.1)
+    where
+      by : (o : Ordering) → text_cmp r.chain s.chain ≡ o → Put r rows → Put r (s ∷ rows)
+      by Less e m = record {
+        all = r ∷ s ∷ rows;
+        writes = refl;
+        removes = ap (λ b. cond b (remove_of r ∷ []) [] ++ flat_map (removed t) (s ∷ rows)) kept;
+        rise = ((ap is_lt e, below_all r s rows (ap is_lt e) p.0), p);
+        keeps = λ P x y. (x, y);
+      }
+      by Equal e m = absurd (false≢true (sym a.0.0 ∙ subst (λ x. bytes_eq r.chain x ≡ true) (slice_cmp-IsAntisymmetric nat_cmp-IsAntisymmetric r.chain s.chain e) (nat_list_eq_equiv.refl r.chain)))
+      by Greater e m =
+          let is : s.removed ≡ true = elim s.removed as (λ b. (b ≡ false → IsBelow r s) → b ≡ true) [ true ↦ λ f. refl | false ↦ λ f. sym (ap is_lt e) ∙ f refl ] a.0.1 in
+          let gone : written t s ≡ [] = ap (λ b. cond b [] (write_of s ∷ [])) is in
+          record {
+            all = s ∷ m.all;
+            writes = ap (λ l. l ++ flat_map (written t) m.all) gone ∙ m.writes ∙ ap (λ l. written t r ++ (l ++ flat_map (written t) rows)) (sym gone);
+            removes = ap (λ l. removed t s ++ l) m.removes;
+            rise = (m.keeps (IsBelow s) (ap is_lt (nat_list_cmp_total.antisymm s.chain r.chain ∙ ap ordering_reverse e)) p.0, m.rise);
+            keeps = λ P x y. (y.0, m.keeps P x y.1);
+          }
 
-either_true : (b c : Bool) → (b || c) ≡ true → c ≡ false → b ≡ true
-either_true true c h k = refl
-either_true false c h k = absurd (false≢true (sym k ∙ h))
+  none_written : (rows : List Row) → AllByRecursion (λ s. s.removed ≡ true) rows → flat_map (written t) rows ≡ []
+  none_written [] a = refl
+  none_written (s ∷ rows) a = ap (λ b. cond b [] (write_of s ∷ []) ++ flat_map (written t) rows) a.0 ∙ none_written rows a.1
 
-neither : (b c : Bool) → (b || not c) ≡ true → (not b || not c) ≡ true → c ≡ false
-neither b false g h = refl
-neither true true g h = absurd (false≢true h)
-neither false true g h = absurd (false≢true g)
+  -- the rows whose edits these are
+  pub record RowsFor (family : Family) (es : List Edit) : Type 0 where
+    pub rows : List Row
+    pub are : IsRows family t rows
+    pub edits : edits_of t rows ≡ es
 
--- a chain that a write of another name may stand before
-abbrev admits : List ℕ → Row → Bool
-admits chain row = not (bytes_eq chain row.chain) && (row.removed || is_below chain row)
+  module _ (family : Family) where
+    abbrev row_of : ChainAt → List Rule → Bool → Row
+    row_of at rules gone = record { chain = at.chain; rules = rules; removed = gone }
 
-put_write : (t : TableName) (r : Row) (rows : List Row) → r.removed ≡ false → list_all (admits r.chain) rows ≡ true
-    → (flat_map (written t) (put_row r rows) ≡ written t r ++ flat_map (written t) rows) × (flat_map (removed t) (put_row r rows) ≡ flat_map (removed t) rows)
-put_write t r [] kept h = (refl, ap (λ b. cond b (remove_of t r ∷ []) [] ++ []) kept)
-put_write t r (s ∷ rows) kept h = by (text_cmp r.chain s.chain) refl (and_parts _ _ (and_parts _ _ h).0) (put_write t r rows kept (and_parts _ _ h).1)
-  where
-    by : (o : Ordering) → text_cmp r.chain s.chain ≡ o → (not (bytes_eq r.chain s.chain) ≡ true) × ((s.removed || is_lt (text_cmp r.chain s.chain)) ≡ true)
-        → (flat_map (written t) (put_row r rows) ≡ written t r ++ flat_map (written t) rows) × (flat_map (removed t) (put_row r rows) ≡ flat_map (removed t) rows)
-        → (flat_map (written t) (by_order o (r ∷ s ∷ rows) (record r { chain = s.chain } ∷ rows) (s ∷ put_row r rows)) ≡ written t r ++ flat_map (written t) (s ∷ rows))
-        × (flat_map (removed t) (by_order o (r ∷ s ∷ rows) (record r { chain = s.chain } ∷ rows) (s ∷ put_row r rows)) ≡ flat_map (removed t) (s ∷ rows))
-    by Less e k rest = (refl, ap (λ b. cond b (remove_of t r ∷ []) [] ++ flat_map (removed t) (s ∷ rows)) kept)
-    by Equal e k rest =
-        absurd (false≢true (ap not (sym (subst (λ x. bytes_eq r.chain x ≡ true) (slice_cmp-IsAntisymmetric nat_cmp-IsAntisymmetric r.chain s.chain e) (nat_list_eq_equiv.refl r.chain))) ∙ k.0))
-    by Greater e k rest =
-        let gone : written t s ≡ [] = ap (λ b. cond b [] (write_of t s ∷ [])) (either_true s.removed (is_lt (text_cmp r.chain s.chain)) k.1 (ap is_lt e)) in (
-          ap (λ l. l ++ flat_map (written t) (put_row r rows)) gone ∙ rest.0 ∙ ap (λ l. written t r ++ (l ++ flat_map (written t) rows)) (sym gone),
-          ap (λ l. removed t s ++ l) rest.1,
-        )
+    fit_row : (e : Edit) (rules : List Rule) (gone : Bool) → (not gone || is_empty rules) ≡ true → (has_canonical_rules family e ≡ true → list_all (is_canonical_rule family) rules ≡ true) → IsGoodIn family t e
+        → (fits t (row_of (place_of e) rules gone) ≡ true) × (is_good family (row_of (place_of e) rules gone) ≡ true)
+    fit_row e rules gone clear bounded g =
+        let k = and_parts (is_edit_in family e) (is_chain_name (place_of e).chain && (not (is_built_in (place_of e).table (place_of e).chain) && has_canonical_rules family e)) g.1 in
+        let l = and_parts (is_chain_name (place_of e).chain) (not (is_built_in (place_of e).table (place_of e).chain) && has_canonical_rules family e) k.1 in
+        let m = and_parts (not (is_built_in (place_of e).table (place_of e).chain)) (has_canonical_rules family e) l.1 in
+        (and_from _ _ (subst (λ u. not (is_built_in u (place_of e).chain) ≡ true) g.0 m.0) clear, and_from _ _ l.0 (bounded m.1))
 
-none_written : (t : TableName) (rows : List Row) → list_all (λ s. s.removed) rows ≡ true → flat_map (written t) rows ≡ []
-none_written t [] h = refl
-none_written t (s ∷ rows) h =
-    let k = and_parts _ _ h in
-    ap (λ b. cond b [] (write_of t s ∷ []) ++ flat_map (written t) rows) k.0 ∙ none_written t rows k.1
-
-module _ (t : TableName) (at : ChainAt) (h : (table_place at.table == table_place t) ≡ true) where
-  place_is : record { table = t; chain = at.chain } ≡ at
-  place_is = λ i. record { table = sym (one_table_from_test at.table t h) i; chain = at.chain }
-
-  compared : (a : Ordering) → ordering_then (nat_cmp (table_place at.table) (table_place t)) a ≡ a
-  compared a = ap (λ o. ordering_then o a) (tied (table_place at.table) (table_place t) h)
-
-  placed : (b : Bool) → ((table_place at.table == table_place t) && b) ≡ b
-  placed b = ap (λ c. c && b) h
-
-  write_admits : (rules : List Rule) (rows : List Row) → list_all (λ other. is_lt (edit_cmp (Write at rules) other)) (edits_of t rows) ≡ true
-      → list_all (λ other. not (is_same_place (Write at rules) other)) (edits_of t rows) ≡ true → list_all (admits at.chain) rows ≡ true
-  write_admits rules rows before differ =
-      let b = all_edits (λ other. is_lt (edit_cmp (Write at rules) other)) t rows before in
-      let d = all_edits (λ other. not (is_same_place (Write at rules) other)) t rows differ in
-      let apart : list_all (λ s. not (bytes_eq at.chain s.chain)) rows ≡ true =
-      all_both (λ s. s.removed || not (is_same_place (Write at rules) (write_of t s))) (λ s. not s.removed || not (is_same_place (Write at rules) (remove_of t s)))
-      (λ s. not (bytes_eq at.chain s.chain))
-      (λ s k l. ap not (sym (placed (bytes_eq at.chain s.chain)) ∙ neither s.removed ((table_place at.table == table_place t) && bytes_eq at.chain s.chain) k l))
-      rows d.0 d.1
-      in
-      all_both (λ s. not (bytes_eq at.chain s.chain)) (λ s. s.removed || is_lt (edit_cmp (Write at rules) (write_of t s))) (admits at.chain)
-      (λ s k l. and_from _ _ k (sym (ap (λ o. s.removed || is_lt o) (compared (text_cmp at.chain s.chain))) ∙ l))
-      rows apart b.0
-
-  remove_before : (rows : List Row) → list_all (λ other. is_lt (edit_cmp (Remove at) other)) (edits_of t rows) ≡ true
-      → (list_all (λ s. s.removed) rows ≡ true) × (list_all (is_below at.chain) rows ≡ true)
-  remove_before rows before =
-      let b = all_edits (λ other. is_lt (edit_cmp (Remove at) other)) t rows before in
-      let gone : list_all (λ s. s.removed) rows ≡ true =
-      test_weaker (λ s. s.removed || is_lt (edit_cmp (Remove at) (write_of t s))) (λ s. s.removed)
-      (λ s k. either_true s.removed (is_lt (edit_cmp (Remove at) (write_of t s))) k (ap is_lt (compared Greater)))
-      rows b.0
-      in (
-        gone,
-        all_both (λ s. s.removed) (λ s. not s.removed || is_lt (edit_cmp (Remove at) (remove_of t s))) (is_below at.chain)
-            (λ s k l. sym (ap (λ c. not c || is_lt (edit_cmp (Remove at) (remove_of t s))) k ∙ ap is_lt (compared (text_cmp at.chain s.chain))) ∙ l)
-            rows gone b.1,
-      )
-
-pub edits_again : (t : TableName) (es : List Edit) → list_all (is_in t) es ≡ true → are_in_order es ≡ true → edit_each_once es ≡ true → edits_of t (rows_of es) ≡ es
-edits_again t [] a o d = refl
-edits_again t (Write at rules ∷ es) a o d =
-    let is = and_parts _ _ a in
-    let before = and_parts _ _ o in
-    let differ = and_parts _ _ d in
-    let again = edits_again t es is.1 before.1 differ.1 in
-    let apart : list_all (λ other. not (is_same_place (Write at rules) other)) es ≡ true = sym (none_of (is_same_place (Write at rules)) es) ∙ differ.0 in
-    let may = write_admits t at is.0 rules (rows_of es)
-    (ap (list_all (λ other. is_lt (edit_cmp (Write at rules) other))) again ∙ before.0)
-    (ap (list_all (λ other. not (is_same_place (Write at rules) other))) again ∙ apart)
-    in
-    let put = put_write t (record { chain = at.chain; rules = rules; removed = false }) (rows_of es) refl may in
-    (λ i. put.0 i ++ put.1 i) ∙ (λ i. Write (place_is t at is.0 i) rules ∷ again i)
-edits_again t (Remove at ∷ es) a o d =
-    let is = and_parts _ _ a in
-    let before = and_parts _ _ o in
-    let differ = and_parts _ _ d in
-    let again = edits_again t es is.1 before.1 differ.1 in
-    let may = remove_before t at is.0 (rows_of es) (ap (list_all (λ other. is_lt (edit_cmp (Remove at) other))) again ∙ before.0) in
-    let none = none_written t (rows_of es) may.0 in
-    ap (edits_of t) (put_first (record { chain = at.chain; rules = []; removed = true }) (rows_of es) may.1)
-    ∙ ap (λ l. l ++ Remove (record { table = t; chain = at.chain }) ∷ flat_map (removed t) (rows_of es)) none
-    ∙ (λ i. Remove (place_is t at is.0 i) ∷ (ap (λ l. l ++ flat_map (removed t) (rows_of es)) (sym none) ∙ again) i)
+    pub rows_for : (es : List Edit) → IsPart family t es → RowsFor family es
+    rows_for [] p = record { rows = []; are = record { rise = tt; fit = tt }; edits = refl }
+    rows_for (e ∷ es) p =
+        let m = rows_for es (p.0.1, p.1.1) in
+        by e p.0.0 m (told (StandsBefore e) m.rows (subst (AllByRecursion (StandsBefore e)) (sym m.edits) p.1.0))
+      where
+        by : (e : Edit) → IsGoodIn family t e → (m : RowsFor family es) → AllByRecursion (Says (StandsBefore e) (StandsBefore e)) m.rows → RowsFor family (e ∷ es)
+        by (Write at rules) g m before =
+            let r = row_of at rules false in
+            let admits = all_weaker (Says (StandsBefore (Write at rules)) (StandsBefore (Write at rules))) (Admits r) (λ s k. (
+              elim s.removed as (λ b. (b ≡ false → StandsBefore (Write at rules) (write_of s)) × (b ≡ true → StandsBefore (Write at rules) (remove_of s)) → bytes_eq at.chain s.chain ≡ false) [
+                | true ↦ λ k. (near (Write at rules) (remove_of s) g.0 (k.1 refl)).1
+                | false ↦ λ k. (near (Write at rules) (write_of s) g.0 (k.0 refl)).1
+              ] k,
+              λ e. (near (Write at rules) (write_of s) g.0 (k.0 e)).0,
+            )) m.rows before in
+            let n = put r m.rows refl m.are.rise admits in
+            record {
+              rows = n.all;
+              are = record { rise = n.rise; fit = n.keeps _ (fit_row (Write at rules) rules false refl (λ c. c) g) m.are.fit };
+              edits = (λ i. n.writes i ++ n.removes i) ∙ (λ i. Write (record { table = sym g.0 i; chain = at.chain }) rules ∷ m.edits i);
+            }
+        by (Remove at) g m before =
+            let r = row_of at [] true in
+            let gone = all_weaker (Says (StandsBefore (Remove at)) (StandsBefore (Remove at))) (λ s. s.removed ≡ true) (λ s k.
+            elim s.removed as (λ b. (b ≡ false → StandsBefore (Remove at) (write_of s)) → b ≡ true) [ true ↦ λ f. refl | false ↦ λ f. (near (Remove at) (write_of s) g.0 (f refl)).0 ] k.0) m.rows before in
+            let none = none_written m.rows gone in
+            record {
+              rows = r ∷ m.rows;
+              are = record {
+                rise = (all_weaker (λ s. Says (StandsBefore (Remove at)) (StandsBefore (Remove at)) s × (s.removed ≡ true)) (IsBelow r) (λ s k. (near (Remove at) (remove_of s) g.0 (k.0.1 k.1)).0) m.rows (all_both _ (λ s. s.removed ≡ true) m.rows before gone), m.are.rise);
+                fit = (fit_row (Remove at) [] true refl (λ c. refl) g, m.are.fit);
+              };
+              edits =
+                  ap (λ l. l ++ remove_of r ∷ flat_map (removed t) m.rows) none
+                  ∙ (λ i. Remove (record { table = sym g.0 i; chain = at.chain }) ∷ (ap (λ l. l ++ flat_map (removed t) m.rows) (sym none) ∙ m.edits) i);
+            }

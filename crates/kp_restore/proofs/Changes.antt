@@ -1,16 +1,16 @@
 -- The changes between two canonical tables that agree on the built-in chains are a canonical batch.
-use Rattle.std.proofs.Common.{◌≡◌, Bool, true, false, ◌==◌, ◌&&◌, not, cond, List, [], ◌∷◌, ◌++◌, bytes_eq, filter, fold, Option, Some, None, is_some, T, refl, sym, ap, ◌∙◌}
-use Rattle.std.specs.Ordering.{nat_cmp, is_lt, ordering_then}
+use Rattle.std.proofs.Common.{◌≡◌, Bool, true, false, ◌==◌, ◌&&◌, not, cond, List, [], ◌∷◌, ◌++◌, bytes_eq, fold, Option, Some, None, is_some, T, refl, sym, ap, ◌∙◌}
+use Rattle.std.specs.Ordering.{is_lt}
 use Rattle.std.specs.declared.cmp.Ordering.TheVariants.{Less}
 use Rattle.std.specs.FinMap.{entries, entries_sorted, get}
 use Rattle.std.specs.FinMap.Entries.{is_sorted, below_all}
-use Rattle.std.specs.List.{list_all, filter_map, cons_option, AllByRecursion}
-use Rattle.std.proofs.lemmas.Bool.{and_parts, and_from, false≢true}
+use Rattle.std.specs.List.{list_all, filter_map, AllByRecursion}
+use Rattle.std.proofs.lemmas.Bool.{and_parts, and_from, false_from_ne_true, false≢true}
+use Rattle.std.proofs.lemmas.Option.{none-some}
 use Rattle.std.proofs.lemmas.Cmp.{tied_itself}
 use Rattle.std.proofs.lemmas.List.{append-nil}
 use Rattle.kp_base.specs.declared.address.Family.{Family}
 use Rattle.kp_base.specs.declared.address.Family.TheVariants.{V4, V6}
-use Rattle.kp_base.specs.Keys.{text_cmp}
 use Rattle.kp_types.specs.Chains.{is_chain_name}
 use Rattle.kp_types.specs.Places.{chain_cmp, table_place, nat_of, filter_of}
 use Rattle.kp_types.specs.declared.chain.TableName.{TableName}
@@ -27,53 +27,17 @@ use Rattle.kp_rules.proofs.OtherFamily.{no_changes_beside}
 use Rattle.kp_rules.proofs.ChangesLead.{In_option, all_filter_map, changes_lead, same_rules_exact}
 use Rattle.kp_restore_defs.specs.RuleText.{is_canonical_rule}
 use Rattle.kp_restore_defs.specs.TableText.{may_stand, is_canonical_chain, is_chain_of, is_canonical_table}
-use Rattle.kp_restore_defs.specs.BatchText.{place_of, edit_cmp, are_in_order, is_same_place, edit_each_once, is_canonical_edit, is_canonical_batch}
+use Rattle.kp_restore_defs.specs.BatchText.{is_canonical_batch}
 use Rattle.kp_restore_defs.specs.BatchesBetween.{HaveSameBuiltIn, ChangesAreCanonical, ReadChangesLeadOver}
-use Rattle.kp_restore.proofs.Tests.{all_true, none_of}
-use Rattle.kp_restore.proofs.BatchEdits.{tied_table, stands_before, stands_apart}
+use Rattle.kp_restore.proofs.Pairs.{EachPair, all_kept, pairs_append, pairs_given, pairs_kept}
+use Rattle.kp_restore.proofs.BatchEdits.{IsGoodIn, IsPart, StandsBefore, canonical_batch, from_near, placed}
 use Rattle.kp_restore.proofs.BatchTexts.{batch_texts_differ}
 use Rattle.kp_restore.proofs.TableTexts.{canonical_parts}
-use Rattle.kp_lemmas.proofs.ListFacts.{test_weaker, all_append, all_both, all_filter, all_tested, all_weaker}
+use Rattle.kp_lemmas.proofs.ListFacts.{test_weaker, all_append, all_both, all_tested, all_weaker}
 use Rattle.kp_lemmas.proofs.Booleans.{both_facts}
 use Rattle.kp_lemmas.proofs.Orders.{less_from_fact}
 use Rattle.kp_lemmas.proofs.Entries.{entries_found}
 use Rattle.kp_base.proofs.SameParts.{text_test_exact}
-
--- ---- Pairs of a list
-
--- each element with each one behind it
-abbrev EachPair : {X : Type 0} → (X → X → Type 0) → List X → Type 0
-EachPair R [] = Unit {0}
-EachPair R (x ∷ xs) = AllByRecursion (R x) xs × EachPair R xs
-
-pairs_append : {X : Type 0} (R : X → X → Type 0) (xs ys : List X) → EachPair R xs → EachPair R ys → AllByRecursion (λ x. AllByRecursion (R x) ys) xs → EachPair R (xs ++ ys)
-pairs_append R [] ys p q a = q
-pairs_append R (x ∷ xs) ys p q a = (all_append (R x) xs ys p.0 a.0, pairs_append R xs ys p.1 q a.1)
-
--- what passes a test, with the test
-all_kept : {X : Type 0} (P : X → Type 0) (test : X → Bool) (xs : List X) → AllByRecursion P xs → AllByRecursion (λ x. P x × (test x ≡ true)) (filter test xs)
-all_kept P test [] a = tt
-all_kept P test (x ∷ xs) a =
-    elim (test x) as (λ b. test x ≡ b → AllByRecursion (λ x. P x × (test x ≡ true)) (cond b (x ∷ filter test xs) (filter test xs))) [
-      | true ↦ λ t. ((a.0, t), all_kept P test xs a.1)
-      | false ↦ λ t. all_kept P test xs a.1
-    ] refl
-
-pairs_kept : {X : Type 0} (R : X → X → Type 0) (test : X → Bool) (xs : List X) → EachPair R xs → EachPair R (filter test xs)
-pairs_kept R test [] p = tt
-pairs_kept R test (x ∷ xs) p =
-    elim (test x) as (λ b. EachPair R (cond b (x ∷ filter test xs) (filter test xs))) [
-      | true ↦ (all_filter (R x) test xs p.0, pairs_kept R test xs p.1)
-      | false ↦ pairs_kept R test xs p.1
-    ]
-
-pairs_given : {X Y : Type 0} (R : X → X → Type 0) (S : Y → Y → Type 0) (f : X → Option Y) → ((a b : X) → R a b → In_option (λ y. In_option (S y) (f b)) (f a)) → (xs : List X) → EachPair R xs → EachPair S (filter_map f xs)
-pairs_given R S f h [] p = tt
-pairs_given {X = X} R S f h (x ∷ xs) p =
-    elim (f x) as (λ o. ((b : X) → R x b → In_option (λ y. In_option (S y) (f b)) o) → EachPair S (cons_option o (filter_map f xs))) [
-      | None ↦ λ g. pairs_given R S f h xs p.1
-      | Some y ↦ λ g. (all_filter_map (S y) f xs (all_weaker (R x) (λ b. In_option (S y) (f b)) g xs p.0), pairs_given R S f h xs p.1)
-    ] (h x)
 
 -- ---- Entries in order
 
@@ -87,26 +51,12 @@ sorted_pairs (e ∷ es) h = let parts = both_facts _ _ h in (below e es parts.0,
 
 -- ---- Edits that may stand one before the other
 
-abbrev StandsBefore : Edit → Edit → Type 0
-StandsBefore a b = (is_lt (edit_cmp a b) ≡ true) × (is_same_place a b ≡ false)
-
-in_order : (es : List Edit) → EachPair StandsBefore es → are_in_order es ≡ true
-in_order [] p = refl
-in_order (e ∷ es) p = and_from _ _ (all_true _ (StandsBefore e) (λ x s. s.0) es p.0) (in_order es p.1)
-
-once : (es : List Edit) → EachPair StandsBefore es → edit_each_once es ≡ true
-once [] p = refl
-once (e ∷ es) p = and_from _ _ (none_of (is_same_place e) es ∙ all_true _ (StandsBefore e) (λ x s. ap not s.1) es p.0) (once es p.1)
-
 -- different places
 apart : (a b : ChainAt) → (a ≡ b → ⊥) → (table_place a.table == table_place b.table && bytes_eq a.chain b.chain) ≡ false
-apart a b other = by (table_place a.table == table_place b.table && bytes_eq a.chain b.chain) refl
-  where
-    by : (t : Bool) → (table_place a.table == table_place b.table && bytes_eq a.chain b.chain) ≡ t → t ≡ false
-    by false e = refl
-    by true e =
-        let parts = and_parts (table_place a.table == table_place b.table) (bytes_eq a.chain b.chain) e in
-        absurd (other (λ i. record { table = one_table_from_test a.table b.table parts.0 i; chain = text_test_exact a.chain b.chain parts.1 i }))
+apart a b other =
+    false_from_ne_true (table_place a.table == table_place b.table && bytes_eq a.chain b.chain)
+    (λ e. let parts = and_parts (table_place a.table == table_place b.table) (bytes_eq a.chain b.chain) e in
+    other (λ i. record { table = one_table_from_test a.table b.table parts.0 i; chain = text_test_exact a.chain b.chain parts.1 i }))
 
 less_apart : (a b : ChainAt) → chain_cmp a b ≡ Less → a ≡ b → ⊥
 less_apart a b h e = false≢true (sym (ap is_lt (tied_itself chain_total a)) ∙ ap (λ c. is_lt (chain_cmp a c)) e ∙ ap is_lt h)
@@ -144,17 +94,19 @@ module _ (family : Family) (before after : Chains) (first : is_canonical_table f
       let parts = canonical_parts family chains h in
       all_both (λ e. get chains e.0 ≡ Some e.1) (λ e. (is_canonical_chain family chains e ≡ true) × (is_chain_of family e ≡ true)) (entries chains) (entries_found chain_total chains)
       (all_both (λ e. is_canonical_chain family chains e ≡ true) (λ e. is_chain_of family e ≡ true) (entries chains)
-      (all_tested (is_canonical_chain family chains) (entries chains) parts.bounded) (all_tested (is_chain_of family) (entries chains) parts.alone))
+      (all_tested (is_canonical_chain family chains) (entries chains) parts.1) (all_tested (is_chain_of family) (entries chains) parts.2))
 
-  -- a write of a chain of the table, as the second table has it
+  -- a write as the second table has the chain, and a remove that it lacks
+  abbrev Leads : Bool → Edit → Type 0
+  Leads true (Write at rules) = get after at ≡ Some rules
+  Leads false (Remove at) = get after at ≡ None
+  Leads writes e = ⊥
+
   abbrev IsWriteIn : TableName → Edit → Type 0
-  IsWriteIn table (Write at rules) = (at.table ≡ table) × ((get after at ≡ Some rules) × (is_canonical_edit family (Write at rules) ≡ true))
-  IsWriteIn table (Remove at) = ⊥
+  IsWriteIn table e = IsGoodIn family table e × Leads true e
 
-  -- a remove of a chain of the table that the second lacks
   abbrev IsRemoveIn : TableName → Edit → Type 0
-  IsRemoveIn table (Write at rules) = ⊥
-  IsRemoveIn table (Remove at) = (at.table ≡ table) × ((get after at ≡ None) × (is_canonical_edit family (Remove at) ≡ true))
+  IsRemoveIn table e = IsGoodIn family table e × Leads false e
 
   write_is : (table : TableName) (e : ChainAt × List Rule) → IsEntry after e × (table_place e.0.table == table_place table ≡ true) → In_option (IsWriteIn table) (write_if_changed before e)
   write_is table e h = by (is_found_with e.1 (get before e.0)) refl
@@ -173,23 +125,20 @@ module _ (family : Family) (before after : Chains) (first : is_canonical_table f
 
       by : (b : Bool) → is_found_with e.1 (get before e.0) ≡ b → In_option (IsWriteIn table) (cond b None (Some (Write e.0 e.1)))
       by true k = tt
-      by false k = (one_table_from_test e.0.table table h.1, (h.0.0, and_from _ _ h.0.1.1 (and_from _ _ named (and_from _ _ (other (is_built_in e.0.table e.0.chain) refl k) ruled))))
+      by false k = ((one_table_from_test e.0.table table h.1, and_from _ _ h.0.1.1 (and_from _ _ named (and_from _ _ (other (is_built_in e.0.table e.0.chain) refl k) ruled))), h.0.0)
 
   remove_is : (table : TableName) (e : ChainAt × List Rule) → IsEntry before e × (table_place e.0.table == table_place table ≡ true) → In_option (IsRemoveIn table) (remove_if_gone after e)
   remove_is table e h = by (get after e.0) refl
     where
-      gone : {X : Type 0} (x : X) → Some x ≡ None → ⊥
-      gone x k = cc
-
       other : (b : Bool) → is_built_in e.0.table e.0.chain ≡ b → get after e.0 ≡ None → not b ≡ true
       other false t k = refl
-      other true t k = absurd (gone e.1 (sym h.0.0 ∙ same e.0 t ∙ k))
+      other true t k = absurd (none-some e.1 (sym k ∙ sym (same e.0 t) ∙ h.0.0))
 
       by : (o : Option (List Rule)) → get after e.0 ≡ o → In_option (IsRemoveIn table) (cond (is_some o) None (Some (Remove e.0)))
       by (Some rules) k = tt
       by None k = (
-        one_table_from_test e.0.table table h.1,
-        (k, and_from _ _ h.0.1.1 (and_from _ _ (and_parts (is_chain_name e.0.chain) _ h.0.1.0).0 (and_from _ _ (other (is_built_in e.0.table e.0.chain) refl k) refl))),
+        (one_table_from_test e.0.table table h.1, and_from _ _ h.0.1.1 (and_from _ _ (and_parts (is_chain_name e.0.chain) _ h.0.1.0).0 (and_from _ _ (other (is_built_in e.0.table e.0.chain) refl k) refl))),
+        k,
       )
 
   -- both kinds of changes of a table
@@ -215,18 +164,11 @@ module _ (family : Family) (before after : Chains) (first : is_canonical_table f
 
   -- a write stands before the removes of its table
   write_stands : (table : TableName) (a b : Edit) → IsWriteIn table a → IsRemoveIn table b → StandsBefore a b
-  write_stands table (Write at rules) (Write to other) w r = absurd r
-  write_stands table (Remove at) b w r = absurd w
-  write_stands table (Write at rules) (Remove to) w r = (
-    (λ i. is_lt (ordering_then (nat_cmp (table_place (w.0 i)) (table_place (r.0 i))) (ordering_then (nat_cmp 0 1) (text_cmp at.chain to.chain)))) ∙ kinds table,
-    apart at to (λ e. there (sym w.1.0 ∙ ap (get after) e ∙ r.1.0)),
-  )
-    where
-      kinds : (t : TableName) → is_lt (ordering_then (nat_cmp (table_place t) (table_place t)) (ordering_then (nat_cmp 0 1) (text_cmp at.chain to.chain))) ≡ true
-      kinds t = ap is_lt (tied_table t (ordering_then (nat_cmp 0 1) (text_cmp at.chain to.chain)))
-
-      there : Some rules ≡ None → ⊥
-      there k = cc
+  write_stands table (Write at rules) (Write to other) w r = absurd r.1
+  write_stands table (Remove at) b w r = absurd w.1
+  write_stands table (Write at rules) (Remove to) w r =
+      let differ = apart at to (λ e. none-some rules (sym r.1 ∙ ap (get after) (sym e) ∙ w.1)) in
+      from_near (Write at rules) (Remove to) (w.0.0 ∙ sym r.0.0) (refl, sym (placed (Write at rules) (Remove to) (w.0.0 ∙ sym r.0.0)) ∙ differ)
 
   changes_stand : (table : TableName) → EachPair StandsBefore (table_changes before after table)
   changes_stand table =
@@ -238,47 +180,24 @@ module _ (family : Family) (before after : Chains) (first : is_canonical_table f
 
   -- ---- Both tables
 
-  -- a canonical edit of the table
-  abbrev IsGoodIn : TableName → Edit → Type 0
-  IsGoodIn table e = ((place_of e).table ≡ table) × (is_canonical_edit family e ≡ true)
-
-  good_write : (table : TableName) (e : Edit) → IsWriteIn table e → IsGoodIn table e
-  good_write table (Write at rules) w = (w.0, w.1.1)
-  good_write table (Remove at) w = absurd w
-
-  good_remove : (table : TableName) (e : Edit) → IsRemoveIn table e → IsGoodIn table e
-  good_remove table (Write at rules) r = absurd r
-  good_remove table (Remove at) r = (r.0, r.1.1)
-
-  all_good : (table : TableName) → AllByRecursion (IsGoodIn table) (table_changes before after table)
+  all_good : (table : TableName) → AllByRecursion (IsGoodIn family table) (table_changes before after table)
   all_good table =
-      all_append (IsGoodIn table) (writes table) (removes table)
-      (all_weaker (IsWriteIn table) (IsGoodIn table) (good_write table) (writes table) (all_writes table))
-      (all_weaker (IsRemoveIn table) (IsGoodIn table) (good_remove table) (removes table) (all_removes table))
-
-  tables_stand : (a b : Edit) → IsGoodIn (nat_of family) a → IsGoodIn (filter_of family) b → StandsBefore a b
-  tables_stand a b n f = (stands_before family a b n.0 f.0, stands_apart family a b n.0 f.0)
+      all_append (IsGoodIn family table) (writes table) (removes table)
+      (all_weaker (IsWriteIn table) (IsGoodIn family table) (λ e w. w.0) (writes table) (all_writes table))
+      (all_weaker (IsRemoveIn table) (IsGoodIn family table) (λ e r. r.0) (removes table) (all_removes table))
 
   canonical : is_canonical_batch family (changes_of family before after) ≡ true
   canonical =
-      let nat = nat_of family in
-      let filter = filter_of family in
-      let stand = pairs_append StandsBefore (table_changes before after nat) (table_changes before after filter) (changes_stand nat) (changes_stand filter)
-      (all_weaker (IsGoodIn nat) (λ a. AllByRecursion (StandsBefore a) (table_changes before after filter))
-      (λ a n. all_weaker (IsGoodIn filter) (StandsBefore a) (λ b f. tables_stand a b n f) (table_changes before after filter) (all_good filter)) (table_changes before after nat) (all_good nat)) in
-      let good : (table : TableName) → AllByRecursion (λ e. is_canonical_edit family e ≡ true) (table_changes before after table) =
-      λ table. all_weaker (IsGoodIn table) (λ e. is_canonical_edit family e ≡ true) (λ e g. g.1) (table_changes before after table) (all_good table) in
-      and_from _ _
-      (all_true (is_canonical_edit family) (λ e. is_canonical_edit family e ≡ true) (λ e h. h) (changes_of family before after) (all_append (λ e. is_canonical_edit family e ≡ true) _ _ (good nat) (good filter)))
-      (and_from _ _ (in_order (changes_of family before after) stand) (once (changes_of family before after) stand))
+      let part : (table : TableName) → IsPart family table (table_changes before after table) = λ table. (all_good table, changes_stand table) in
+      canonical_batch family (table_changes before after (nat_of family)) (table_changes before after (filter_of family)) (part (nat_of family)) (part (filter_of family))
 
 -- tables of one family have no changes of the other
 pub own_changes : (family : Family) (before after : Chains) → is_canonical_table family before ≡ true → is_canonical_table family after ≡ true → changes_between before after ≡ changes_of family before after
 own_changes V4 before after g h =
-    ap (λ es. changes_of V4 before after ++ es) (no_changes_beside V4 V6 refl before after (canonical_parts V4 before g).alone (canonical_parts V4 after h).alone)
+    ap (λ es. changes_of V4 before after ++ es) (no_changes_beside V4 V6 refl before after (canonical_parts V4 before g).2 (canonical_parts V4 after h).2)
     ∙ append-nil (changes_of V4 before after)
 own_changes V6 before after g h =
-    ap (λ es. es ++ changes_of V6 before after) (no_changes_beside V6 V4 refl before after (canonical_parts V6 before g).alone (canonical_parts V6 after h).alone)
+    ap (λ es. es ++ changes_of V6 before after) (no_changes_beside V6 V4 refl before after (canonical_parts V6 before g).2 (canonical_parts V6 after h).2)
 
 pub changes_canonical : ChangesAreCanonical
 changes_canonical family before after first second same = canonical family before after first second same

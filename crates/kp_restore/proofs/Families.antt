@@ -17,12 +17,10 @@ abbrev pub IsTableOf : Family → TableName → Type 0
 IsTableOf family table = same_family (family_of_table table) family ≡ true
 
 pub nat_is_of : (family : Family) → IsTableOf family (nat_of family)
-nat_is_of V4 = refl
-nat_is_of V6 = refl
+nat_is_of family = elim family as (λ f. IsTableOf f (nat_of f)) [ V4 ↦ refl | V6 ↦ refl ]
 
 pub filter_is_of : (family : Family) → IsTableOf family (filter_of family)
-filter_is_of V4 = refl
-filter_is_of V6 = refl
+filter_is_of family = elim family as (λ f. IsTableOf f (filter_of f)) [ V4 ↦ refl | V6 ↦ refl ]
 
 -- a table of a family is its nat or its filter table
 pub which_table : (family : Family) (table : TableName) → IsTableOf family table → (table ≡ nat_of family) ⊎ (table ≡ filter_of family)
@@ -30,28 +28,22 @@ which_table V4 Nat h = inl refl
 which_table V4 Filter h = inr refl
 which_table V6 Nat6 h = inl refl
 which_table V6 Filter6 h = inr refl
-which_table V4 Nat6 h = absurd (false≢true h)
-which_table V4 Filter6 h = absurd (false≢true h)
-which_table V6 Nat h = absurd (false≢true h)
-which_table V6 Filter h = absurd (false≢true h)
+which_table V4 table h = absurd (false≢true h)
+which_table V6 table h = absurd (false≢true h)
 
 -- the nat table stands before the filter table
 pub nat_first : (family : Family) → nat_cmp (table_place (nat_of family)) (table_place (filter_of family)) ≡ Less
-nat_first V4 = refl
-nat_first V6 = refl
+nat_first family = elim family as (λ f. nat_cmp (table_place (nat_of f)) (table_place (filter_of f)) ≡ Less) [ V4 ↦ refl | V6 ↦ refl ]
 
 -- and the filter table after it
 pub filter_last : (family : Family) → nat_cmp (table_place (filter_of family)) (table_place (nat_of family)) ≡ Greater
-filter_last V4 = refl
-filter_last V6 = refl
+filter_last family = elim family as (λ f. nat_cmp (table_place (filter_of f)) (table_place (nat_of f)) ≡ Greater) [ V4 ↦ refl | V6 ↦ refl ]
 
 pub nat_is_no_filter : (family : Family) → (table_place (nat_of family) == table_place (filter_of family)) ≡ false
-nat_is_no_filter V4 = refl
-nat_is_no_filter V6 = refl
+nat_is_no_filter family = elim family as (λ f. (table_place (nat_of f) == table_place (filter_of f)) ≡ false) [ V4 ↦ refl | V6 ↦ refl ]
 
 pub filter_is_no_nat : (family : Family) → (table_place (filter_of family) == table_place (nat_of family)) ≡ false
-filter_is_no_nat V4 = refl
-filter_is_no_nat V6 = refl
+filter_is_no_nat family = elim family as (λ f. (table_place (filter_of f) == table_place (nat_of f)) ≡ false) [ V4 ↦ refl | V6 ↦ refl ]
 
 pub table_tied : (table : TableName) → (table_place table == table_place table) ≡ true
 table_tied table = grind (arith, nat_tests)

@@ -1,12 +1,11 @@
 pub mod BatchEdits
-pub mod BatchParts
 pub mod BatchRows
 pub mod BatchTexts
 pub mod Changes
 pub mod Families
 pub mod LineTexts
 pub mod Machine
-pub mod ReadLines
+pub mod Pairs
 pub mod Reading
 pub mod Rows
 pub mod RuleLines

@@ -5,32 +5,33 @@ use Rattle.std.proofs.lemmas.Bool.{and_parts}
 use Rattle.std.proofs.lemmas.Bool.Decides.{nat_tests}
 use Rattle.kp_base.specs.declared.address.Family.{Family}
 use Rattle.kp_base.specs.declared.address.Family.TheVariants.{V4, V6}
-use Rattle.kp_types.specs.Chains.{is_chain_byte}
+use Rattle.kp_types.specs.Chains.{is_chain_byte, is_chain_name}
+use Rattle.kp_types.specs.declared.rule.Rule.{Rule}
+use Rattle.kp_restore_defs.specs.RuleText.{is_canonical_rule, rule_line}
+use Rattle.std.proofs.lemmas.List.{append-nil}
 use Rattle.kp_types.specs.Places.{nat_of, filter_of}
 use Rattle.kp_types.specs.declared.chain.TableName.{TableName}
 use Rattle.kp_types.specs.declared.chain.TableName.TheVariants.{Nat, Filter, Nat6, Filter6}
 use Rattle.kp_restore_defs.specs.TableText.{table_line}
 use Rattle.kp_restore.specs.declared.line.Line.{Line}
 use Rattle.kp_restore.specs.declared.line.Line.TheVariants.{Section, BuiltIn, Declared, Ruled, Removed, Commit}
-use Rattle.kp_restore.specs.Lines.{line_text, is_canonical_line}
+use Rattle.kp_restore.specs.Lines.{IsFixed, line_text, is_canonical_line}
 use Rattle.kp_restore_text.specs.Pieces.{no_line_feed}
 use Rattle.kp_rule_text.proofs.Rules.{lines_differ}
 use Rattle.kp_restore.proofs.Families.{IsTableOf, which_table}
-use Rattle.kp_restore.proofs.RuleLines.{name_plain, both_plain, rule_plain}
+use Rattle.kp_restore.proofs.RuleLines.{name_plain, no_feed, rule_plain}
+use Rattle.kp_lemmas.proofs.ListFacts.{test_append}
 use Rattle.kp_types.proofs.ChainBytes.{name_bytes}
 
 -- ---- No line feed
 
 section_plain : (table : TableName) → no_line_feed (table_line table) ≡ true
-section_plain Nat = refl
-section_plain Filter = refl
-section_plain Nat6 = refl
-section_plain Filter6 = refl
+section_plain table = elim table as (λ t. no_line_feed (table_line t) ≡ true) [ Nat ↦ refl | Filter ↦ refl | Nat6 ↦ refl | Filter6 ↦ refl ]
 
 pub line_plain : (family : Family) (l : Line) → is_canonical_line family l ≡ true → no_line_feed (line_text l) ≡ true
 line_plain family (Section table) h = section_plain table
-line_plain family (BuiltIn chain) h = both_plain chain (codes " ACCEPT [0:0]") (name_plain chain h) refl
-line_plain family (Declared chain) h = both_plain chain (codes " - [0:0]") (name_plain chain h) refl
+line_plain family (BuiltIn chain) h = test_append no_feed chain (codes " ACCEPT [0:0]") (name_plain chain h) refl
+line_plain family (Declared chain) h = test_append no_feed chain (codes " - [0:0]") (name_plain chain h) refl
 line_plain family (Ruled chain rule) h = rule_plain family chain rule (and_parts _ _ h).0 (and_parts _ _ h).1
 line_plain family (Removed chain) h = name_plain chain h
 line_plain family Commit h = refl
@@ -74,10 +75,7 @@ mark Commit = 67
 
 mark_is : (l : Line) → mark_of_text (line_text l) ≡ mark l
 unfolding mark_of_text first_of_text second_of_text mark
-mark_is (Section Nat) = refl
-mark_is (Section Filter) = refl
-mark_is (Section Nat6) = refl
-mark_is (Section Filter6) = refl
+mark_is (Section table) = elim table as (λ t. mark_of_text (table_line t) ≡ 42) [ Nat ↦ refl | Filter ↦ refl | Nat6 ↦ refl | Filter6 ↦ refl ]
 mark_is (BuiltIn chain) = refl
 mark_is (Declared chain) = refl
 mark_is (Ruled chain rule) = refl
@@ -114,3 +112,19 @@ line_exact family (Ruled a r) (Ruled b s) g h e =
 line_exact family (Removed a) (Removed b) g h e = ap (λ n. Removed n) (ap (drop 3) e)
 line_exact family Commit Commit g h e = refl
 line_exact family l m g h e = absurd (apart (mark l) (mark m) refl (sym (mark_is l) ∙ ap mark_of_text e ∙ mark_is m))
+
+-- ---- No line
+
+-- no name stands between these texts
+abbrev pub NoneBetween : List ℕ → List ℕ → List ℕ → Type 0
+NoneBetween bytes front back = (chain : List ℕ) → is_chain_name chain ≡ true → front ++ (chain ++ back) ≡ bytes → ⊥
+
+pub no_line : (family : Family) (bytes : List ℕ) → ((chain : List ℕ) (rule : Rule) → is_chain_name chain ≡ true → is_canonical_rule family rule ≡ true → rule_line chain rule ≡ bytes → ⊥)
+    → NoneBetween bytes (codes ":") (codes " - [0:0]") → NoneBetween bytes (codes ":") (codes " ACCEPT [0:0]") → NoneBetween bytes (codes "-X ") []
+    → ((l : Line) → IsFixed l → line_text l ≡ bytes → ⊥) → (l : Line) → is_canonical_line family l ≡ true → line_text l ≡ bytes → ⊥
+no_line family bytes r d b x f (Section table) h e = f (Section table) tt e
+no_line family bytes r d b x f (BuiltIn chain) h e = b chain h e
+no_line family bytes r d b x f (Declared chain) h e = d chain h e
+no_line family bytes r d b x f (Ruled chain rule) h e = r chain rule (and_parts _ _ h).0 (and_parts _ _ h).1 e
+no_line family bytes r d b x f (Removed chain) h e = x chain h (ap (λ n. codes "-X " ++ n) (append-nil chain) ∙ e)
+no_line family bytes r d b x f Commit h e = f Commit tt e

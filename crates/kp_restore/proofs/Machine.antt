@@ -49,28 +49,29 @@ module _ {S X : Type 0} (step : S → X → Option S) where
 
 -- a machine over the lines of the texts of values
 pub record IsReader {S X V : Type 0} (step : S → X → Option S) (start : S) (IsEnd : S → Type 0) (value : S → V) (text : X → List ℕ) (good : X → Bool)
-    (has_text : V → Type 0) (lines_of : V → List (List ℕ)) (parts : V → List X) : Type 0 where
+    (has_text : V → Type 0) (lines_of : V → List (List ℕ)) : Type 0 where
   pub exact : (x y : X) → good x ≡ true → good y ≡ true → text x ≡ text y → x ≡ y
   pub plain : (x : X) → good x ≡ true → no_line_feed (text x) ≡ true
-  pub printed : (v : V) → has_text v → lines_of v ≡ map text (parts v)
-  pub all_good : (v : V) → has_text v → list_all good (parts v) ≡ true
-  pub sound : (xs : List X) (s : S) → list_all good xs ≡ true → run step start xs ≡ Some s → IsEnd s → has_text (value s) × (parts (value s) ≡ xs)
-  pub complete : (v : V) → has_text v → (s : S) × (run step start (parts v) ≡ Some s) × IsEnd s × (value s ≡ v)
+  pub sound : (xs : List X) (s : S) → list_all good xs ≡ true → run step start xs ≡ Some s → IsEnd s → has_text (value s) × (lines_of (value s) ≡ map text xs)
+  pub complete : (v : V) → has_text v → (xs : List X) × (list_all good xs ≡ true) × (lines_of v ≡ map text xs) × (s : S) × (run step start xs ≡ Some s) × IsEnd s × (value s ≡ v)
   pub ends : (xs : List X) (s : S) → list_all good xs ≡ true → run step start xs ≡ Some s → LeadsToEnd step good IsEnd s
 
--- a reader of values that have the texts of others, one of each
+-- a reader of values that are made of others, with their texts
 pub tied : {S X V W : Type 0} {step : S → X → Option S} {start : S} {IsEnd : S → Type 0} {value : S → V} {text : X → List ℕ} {good : X → Bool}
-    {has_text : V → Type 0} {lines_of : V → List (List ℕ)} {parts : V → List X} → IsReader step start IsEnd value text good has_text lines_of parts
-    → (has : W → Type 0) (lines : W → List (List ℕ)) (from : V → W) (to : W → V) → ((w : W) → has w → has_text (to w)) → ((v : V) → has_text v → has (from v))
-    → ((w : W) → has w → from (to w) ≡ w) → ((v : V) → has_text v → to (from v) ≡ v) → ((w : W) → has w → lines w ≡ lines_of (to w))
-    → IsReader step start IsEnd (λ s. from (value s)) text good has lines (λ w. parts (to w))
-tied {value = value} {parts = parts} reader has lines from to goes comes back again printed = record {
+    {has_text : V → Type 0} {lines_of : V → List (List ℕ)} → IsReader step start IsEnd value text good has_text lines_of
+    → (has : W → Type 0) (lines : W → List (List ℕ)) (from : V → W) → ((v : V) → has_text v → has (from v) × (lines (from v) ≡ lines_of v)) → ((w : W) → has w → (v : V) × has_text v × (from v ≡ w))
+    → IsReader step start IsEnd (λ s. from (value s)) text good has lines
+tied {value = value} reader has lines from comes goes = record {
   exact = reader.exact;
   plain = reader.plain;
-  printed = λ w h. printed w h ∙ reader.printed (to w) (goes w h);
-  all_good = λ w h. reader.all_good (to w) (goes w h);
-  sound = λ xs s g r end. let k = reader.sound xs s g r end in (comes (value s) k.0, ap parts (again (value s) k.0) ∙ k.1);
-  complete = λ w h. let k = reader.complete (to w) (goes w h) in (k.0, k.1, k.2, ap from k.3 ∙ back w h);
+  sound = λ xs s g r end.
+      let k = reader.sound xs s g r end in
+      let c = comes (value s) k.0 in
+      (c.0, c.1 ∙ k.1);
+  complete = λ w h.
+      let m = goes w h in
+      let k = reader.complete m.0 m.1 in
+      (k.0, k.1, sym (ap lines m.2) ∙ (comes m.0 m.1).1 ∙ k.2, k.3, k.4, k.5, ap from k.6 ∙ m.2);
   ends = reader.ends;
 }
 
@@ -90,9 +91,9 @@ pub all_front : {A : Type 0} (p : A → Bool) (xs ys : List A) → list_all p (x
 all_front p xs ys h = and_parts _ _ (sym (list_all-append p xs ys) ∙ h)
 
 module _ {S X V : Type 0} {step : S → X → Option S} {start : S} {IsEnd : S → Type 0} {value : S → V} {text : X → List ℕ} {good : X → Bool}
-    {has_text : V → Type 0} {lines_of : V → List (List ℕ)} {parts : V → List X} (reader : IsReader step start IsEnd value text good has_text lines_of parts) where
+    {has_text : V → Type 0} {lines_of : V → List (List ℕ)} (reader : IsReader step start IsEnd value text good has_text lines_of) where
   -- good parts with one text are one list
-  pub same_parts : (xs ys : List X) → list_all good xs ≡ true → list_all good ys ≡ true → map text xs ≡ map text ys → xs ≡ ys
+  same_parts : (xs ys : List X) → list_all good xs ≡ true → list_all good ys ≡ true → map text xs ≡ map text ys → xs ≡ ys
   same_parts [] [] g h e = refl
   same_parts [] (y ∷ ys) g h e = absurd (cc)
   same_parts (x ∷ xs) [] g h e = absurd (cc)
@@ -104,18 +105,24 @@ module _ {S X V : Type 0} {step : S → X → Option S} {start : S} {IsEnd : S �
   pub all_plain : (xs : List X) → list_all good xs ≡ true → list_all no_line_feed (map text xs) ≡ true
   all_plain xs h = list_all-map no_line_feed text xs ∙ test_weaker good (λ x. no_line_feed (text x)) reader.plain xs h
 
-  -- the lines of a value's text are those of its parts
-  pub lines_known : (v : V) → has_text v → (bytes : List ℕ) → text_of_lines (lines_of v) ≡ bytes → ended_lines bytes ≡ map text (parts v)
+  -- the lines of a value's text are its lines
+  pub lines_known : (v : V) → has_text v → (bytes : List ℕ) → text_of_lines (lines_of v) ≡ bytes → ended_lines bytes ≡ lines_of v
   lines_known v h bytes e =
-      ap ended_lines (sym e ∙ ap text_of_lines (reader.printed v h)) ∙ lines_again (map text (parts v)) (all_plain (parts v) (reader.all_good v h))
+      let k = reader.complete v h in
+      ap ended_lines (sym e ∙ ap text_of_lines k.2) ∙ lines_again (map text k.0) (all_plain k.0 k.1) ∙ sym k.2
+
+  -- a state behind all lines of a value
+  pub state_of : (v : V) → has_text v → (xs : List X) → list_all good xs ≡ true → lines_of v ≡ map text xs → (s : S) × (run step start xs ≡ Some s) × IsEnd s × (value s ≡ v)
+  state_of v h xs all is =
+      let (ys, good, are, s, ran, end, of) = reader.complete v h in
+      (s, ap (run step start) (same_parts xs ys all good (sym is ∙ are)) ∙ ran, end, of)
 
   -- values with one text are one
   pub same_value : (a b : V) → has_text a → has_text b → text_of_lines (lines_of a) ≡ text_of_lines (lines_of b) → a ≡ b
   same_value a b g h e =
-      let m = reader.complete a g in
-      let n = reader.complete b h in
-      let one = same_parts (parts a) (parts b) (reader.all_good a g) (reader.all_good b h) (sym (lines_known a g _ refl) ∙ lines_known b h _ (sym e)) in
-      sym m.3 ∙ ap value (same_Some m.0 n.0 (sym m.1 ∙ ap (run step start) one ∙ n.1)) ∙ n.3
+      let (xs, all, is, s, ran, end, of) = reader.complete a g in
+      let (u, goes, over, made) = state_of b h xs all (sym (lines_known b h _ (sym e)) ∙ lines_known a g _ refl ∙ is) in
+      sym of ∙ ap value (same_Some s u (sym ran ∙ goes)) ∙ made
 
   module _ (xs : List X) (s : S) (all : list_all good xs ≡ true) (ran : run step start xs ≡ Some s) where
     -- the lines so far begin the text of a value
@@ -123,19 +130,17 @@ module _ {S X V : Type 0} {step : S → X → Option S} {start : S} {IsEnd : S �
     begun =
         let rest = reader.ends xs s all ran in
         let sound = reader.sound (xs ++ rest.0) rest.2 (list_all-append good xs rest.0 ∙ and_from _ _ all rest.1) (run_on step start s xs rest.0 ran ∙ rest.3) rest.4 in
-        (value rest.2, sound.0, rest.0, reader.printed (value rest.2) sound.0 ∙ ap (map text) sound.1 ∙ map-append text xs rest.0)
+        (value rest.2, sound.0, rest.0, sound.1 ∙ map-append text xs rest.0)
 
     -- no value has a line that the reader doesn't take behind them
     pub not_with : (line : List ℕ) → ((x : X) → good x ≡ true → text x ≡ line → step s x ≡ None)
         → (v : V) → has_text v → (n : ℕ) → map text xs ++ line ∷ [] ≡ take n (lines_of v) → ⊥
     not_with line stuck v h n e =
-        let ps = take n (parts v) in
-        let shown : map text ps ≡ map text xs ++ line ∷ [] = sym (take-map text n (parts v)) ∙ ap (take n) (sym (reader.printed v h)) ∙ sym e in
-        let cut = last_of_map text (map text xs) line ps shown in
-        let good_ps = all_front good ps (drop n (parts v)) (ap (list_all good) (take-append-drop n (parts v)) ∙ reader.all_good v h) in
+        let (ys, fine, is, end, goes, over, made) = reader.complete v h in
+        let ps = take n ys in
+        let cut = last_of_map text (map text xs) line ps (sym (take-map text n ys) ∙ ap (take n) (sym is) ∙ sym e) in
+        let good_ps = all_front good ps (drop n ys) (ap (list_all good) (take-append-drop n ys) ∙ fine) in
         let good_cut = all_front good cut.0 (cut.1 ∷ []) (ap (list_all good) (sym cut.2) ∙ good_ps.0) in
-        let same : cut.0 ≡ xs = same_parts cut.0 xs good_cut.0 all cut.3 in
-        let whole = reader.complete v h in
-        let m = run_between step start whole.0 ps (drop n (parts v)) (ap (run step start) (take-append-drop n (parts v)) ∙ whole.1) in
-        let taken : step s cut.1 ≡ Some m.0 = run_last step start s m.0 xs cut.1 ran (ap (λ ys. run step start (ys ++ cut.1 ∷ [])) (sym same) ∙ ap (run step start) (sym cut.2) ∙ m.1) in
+        let m = run_between step start end ps (drop n ys) (ap (run step start) (take-append-drop n ys) ∙ goes) in
+        let taken = run_last step start s m.0 xs cut.1 ran (ap (λ zs. run step start (zs ++ cut.1 ∷ [])) (sym (same_parts cut.0 xs good_cut.0 all cut.3)) ∙ ap (run step start) (sym cut.2) ∙ m.1) in
         absurd (none-some _ (sym (stuck cut.1 (and_parts _ _ good_cut.1).0 cut.4) ∙ taken))

@@ -14,10 +14,9 @@ use Rattle.kp_restore.specs.declared.fault.TextFault.{TextFault}
 use Rattle.kp_restore.specs.declared.fault.TextFault.TheVariants.{BadText}
 use Rattle.kp_restore.specs.declared.line.Line.{Line}
 use Rattle.kp_restore.specs.Lines.{is_canonical_line, line_text}
-use Rattle.kp_restore.specs.Machine.{run}
 use Rattle.kp_restore_text.specs.Pieces.{no_line_feed}
 use Rattle.kp_restore.specs.Reading.{IsTaken, IsRefused, IsRead, IsStuck, Refused, Unfinished}
-use Rattle.kp_restore.proofs.Machine.{IsReader, run_one, same_parts, all_plain, lines_known, begun, not_with}
+use Rattle.kp_restore.proofs.Machine.{IsReader, run_one, all_plain, begun, lines_known, not_with, state_of}
 use Rattle.kp_restore.proofs.Texts.{ended_with_line, ended_with_none}
 
 -- a further line of a text
@@ -30,7 +29,7 @@ pub record IsBadFrom {V : Type 0} (has_text : V → Type 0) (lines_of : V → Li
   pub first : IsFirstBadLine has_text lines_of bytes number
 
 module _ {family : Family} {S : Type 0} {step : S → Line → Option S} {start : S} where
-  read_more : {bytes : List ℕ} {s t : S} {rest : List ℕ} {number : ℕ} → IsRead family step start bytes s rest number
+  pub read_more : {bytes : List ℕ} {s t : S} {rest : List ℕ} {number : ℕ} → IsRead family step start bytes s rest number
       → (line behind : List ℕ) → rest ≡ line ++ 10 ∷ behind → IsTaken family step s line t → IsRead family step start bytes t behind (number + 1)
   read_more {bytes} {s} {t} {rest} {number} r line behind ended (x, is_good, is, goes) =
       let xs = r.lines in
@@ -44,13 +43,8 @@ module _ {family : Family} {S : Type 0} {step : S → Line → Option S} {start 
         within = omega (arith, r.within, ap length ended, length-append line (10 ∷ behind));
       }
 
-  -- a line that is ended, and that a call took
-  pub read_taken : {bytes : List ℕ} {s : S} {rest : List ℕ} {number : ℕ} → IsRead family step start bytes s rest number
-      → (line behind : List ℕ) → rest ≡ line ++ 10 ∷ behind → (t : S) (found : Option S) → found ≡ Some t → IfSome found (IsTaken family step s line) → IsRead family step start bytes t behind (number + 1)
-  read_taken {s = s} r line behind ended t found is taken = read_more r line behind ended (subst (λ o. IfSome o (IsTaken family step s line)) is taken)
-
-module _ {family : Family} {S V : Type 0} {step : S → Line → Option S} {start : S} {IsEnd : S → Type 0} {value : S → V} {has_text : V → Type 0} {lines_of : V → List (List ℕ)} {parts : V → List Line}
-    (reader : IsReader step start IsEnd value line_text (is_canonical_line family) has_text lines_of parts) where
+module _ {family : Family} {S V : Type 0} {step : S → Line → Option S} {start : S} {IsEnd : S → Type 0} {value : S → V} {has_text : V → Type 0} {lines_of : V → List (List ℕ)}
+    (reader : IsReader step start IsEnd value line_text (is_canonical_line family) has_text lines_of) where
   module _ {bytes : List ℕ} {s : S} {rest : List ℕ} {number : ℕ} (r : IsRead family step start bytes s rest number) where
     counted : length (map line_text r.lines) + 1 ≡ number
     counted = omega (arith, length-map r.lines line_text, r.counted)
@@ -78,7 +72,7 @@ module _ {family : Family} {S V : Type 0} {step : S → Line → Option S} {star
         in
         let none = not_with reader r.lines s r.canonical r.ran line stuck in
         record {
-          none = λ v h e. none v h number (sym with_line ∙ ap (take number) (lines_known reader v h bytes e ∙ sym (reader.printed v h)));
+          none = λ v h e. none v h number (sym with_line ∙ ap (take number) (lines_known reader v h bytes e));
           first = record {
             counted = omega (arith, counted);
             within = omega (arith, ap length lines, length-append (map line_text r.lines) (line ∷ ended_lines behind), counted);
@@ -94,11 +88,10 @@ module _ {family : Family} {S V : Type 0} {step : S → Line → Option S} {star
         let n : length (ended_lines bytes) + 1 ≡ number = omega (arith, ap length lines, length-append (map line_text r.lines) [], counted) in
         record {
           none = λ v h e.
-              let same = same_parts reader (parts v) r.lines (reader.all_good v h) r.canonical (sym (lines_known reader v h bytes e) ∙ lines ∙ append-nil (map line_text r.lines)) in
-              let whole = reader.complete v h in
-              let here : whole.0 ≡ s = same_Some whole.0 s (sym whole.1 ∙ ap (run step start) same ∙ r.ran) in
-              let all : text_of_lines (map line_text r.lines) ≡ bytes = ap (λ ys. text_of_lines (map line_text ys)) (sym same) ∙ ap text_of_lines (sym (reader.printed v h)) ∙ e in
-              owed (append_cancel_left (text_of_lines (map line_text r.lines)) rest [] (sym (append-nil _ ∙ all ∙ r.cut))) (subst IsEnd here whole.2);
+              let is : lines_of v ≡ map line_text r.lines = sym (lines_known reader v h bytes e) ∙ lines ∙ append-nil (map line_text r.lines) in
+              let (u, goes, end, made) = state_of reader v h r.lines r.canonical is in
+              let nothing = append_cancel_left (text_of_lines (map line_text r.lines)) rest [] (sym (append-nil _ ∙ ap text_of_lines (sym is) ∙ e ∙ r.cut)) in
+              owed nothing (subst IsEnd (same_Some u s (sym goes ∙ r.ran)) end);
           first = record {
             counted = omega (arith, counted);
             within = omega (arith, n);
@@ -116,7 +109,7 @@ module _ {family : Family} {S V : Type 0} {step : S → Line → Option S} {star
   pub finished : {bytes : List ℕ} {s : S} {number : ℕ} → IsRead family step start bytes s [] number → IsEnd s → has_text (value s) × (text_of_lines (lines_of (value s)) ≡ bytes)
   finished {s = s} r end =
       let sound = reader.sound r.lines s r.canonical r.ran end in
-      (sound.0, ap text_of_lines (reader.printed (value s) sound.0 ∙ ap (map line_text) sound.1) ∙ sym (r.cut ∙ append-nil (text_of_lines (map line_text r.lines))))
+      (sound.0, ap text_of_lines sound.1 ∙ sym (r.cut ∙ append-nil (text_of_lines (map line_text r.lines))))
 
 -- ---- What is answered
 

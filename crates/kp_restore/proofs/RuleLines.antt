@@ -30,7 +30,7 @@ use Rattle.kp_types.proofs.ChainBytes.{name_bytes}
 
 -- ---- Bytes
 
-abbrev no_feed : ℕ → Bool
+abbrev pub no_feed : ℕ → Bool
 no_feed b = not (b == 10)
 
 chain_byte : (b : ℕ) → is_chain_byte b ≡ true → no_feed b ≡ true
@@ -41,9 +41,6 @@ digit_byte b h = grind (arith, nat_tests)
 
 pub name_plain : (name : List ℕ) → is_chain_name name ≡ true → no_line_feed name ≡ true
 name_plain name h = test_weaker is_chain_byte no_feed chain_byte name (name_bytes name h)
-
-pub both_plain : (a b : List ℕ) → no_line_feed a ≡ true → no_line_feed b ≡ true → no_line_feed (a ++ b) ≡ true
-both_plain a b g h = test_append no_feed a b g h
 
 number_plain : (most n : ℕ) → most < 2 ^ 64 → nat_le n most ≡ true → no_line_feed (decimal n) ≡ true
 number_plain most n small h = test_weaker is_digit no_feed digit_byte (decimal n) (number_digits most small n h)
@@ -61,22 +58,21 @@ pub address_plain : (family : Family) (n : ℕ) → no_line_feed (number_text fa
 address_plain family n = test_weaker (is_host_byte family) no_feed (host_byte family) (number_text family n) (number_bytes family n)
 
 width_low : (family : Family) → width family < 2 ^ 64
-width_low V4 = omega arith
-width_low V6 = omega arith
+width_low family = elim family as (λ f. width f < 2 ^ 64) [ V4 ↦ omega arith | V6 ↦ omega arith ]
 
 range_plain : (family : Family) (r : RangeParts) → is_canonical_range family r ≡ true → no_line_feed (range_text r) ≡ true
 range_plain family r h =
-    both_plain (address_text r.base) (47 ∷ decimal r.bits) (address_plain r.base.family r.base.number)
+    test_append no_feed (address_text r.base) (47 ∷ decimal r.bits) (address_plain r.base.family r.base.number)
     (number_plain (width family) r.bits (width_low family) (and_parts _ _ (and_parts _ _ h).1).0)
 
 host_plain : (family : Family) (text : List ℕ) → no_line_feed text ≡ true → no_line_feed (host_text family text) ≡ true
 host_plain V4 text h = h
-host_plain V6 text h = both_plain (codes "[" ++ text) (codes "]") h refl
+host_plain V6 text h = test_append no_feed (codes "[" ++ text) (codes "]") h refl
 
 endpoint_plain : (family : Family) (e : Endpoint) → is_canonical_endpoint family e ≡ true → no_line_feed (endpoint_text e) ≡ true
 endpoint_plain family e h =
-    both_plain (host_text e.address.family (address_text e.address) ++ codes ":") (decimal e.port)
-    (both_plain (host_text e.address.family (address_text e.address)) (codes ":") (host_plain e.address.family (address_text e.address) (address_plain e.address.family e.address.number)) refl)
+    test_append no_feed (host_text e.address.family (address_text e.address) ++ codes ":") (decimal e.port)
+    (test_append no_feed (host_text e.address.family (address_text e.address)) (codes ":") (host_plain e.address.family (address_text e.address) (address_plain e.address.family e.address.number)) refl)
     (port_plain e.port (and_parts _ _ h).1)
 
 -- ---- Words
@@ -98,16 +94,12 @@ proto_plain : (proto : Proto) → no_line_feed (proto_word proto) ≡ true
 proto_plain Tcp = refl
 proto_plain proto = refl
 
-words_behind : (xs ys : List (List ℕ)) → words_plain xs ≡ true → words_plain ys ≡ true → words_plain (xs ++ ys) ≡ true
-words_behind xs ys g h = test_append no_line_feed xs ys g h
-
 not_plain : (negated : Bool) → words_plain (not_words negated) ≡ true
-not_plain true = refl
-not_plain false = refl
+not_plain negated = elim negated as (λ n. words_plain (not_words n) ≡ true) [ true ↦ refl | false ↦ refl ]
 
 match_plain : (family : Family) (m : Match) → is_canonical_match family m ≡ true → words_plain (match_words m) ≡ true
-match_plain family (match.Src range negated) h = words_behind (not_words negated) (codes "-s" ∷ range_text range ∷ []) (not_plain negated) (and_from _ _ (range_plain family range h) refl)
-match_plain family (match.Dst range negated) h = words_behind (not_words negated) (codes "-d" ∷ range_text range ∷ []) (not_plain negated) (and_from _ _ (range_plain family range h) refl)
+match_plain family (match.Src range negated) h = test_append no_line_feed (not_words negated) (codes "-s" ∷ range_text range ∷ []) (not_plain negated) (and_from _ _ (range_plain family range h) refl)
+match_plain family (match.Dst range negated) h = test_append no_line_feed (not_words negated) (codes "-d" ∷ range_text range ∷ []) (not_plain negated) (and_from _ _ (range_plain family range h) refl)
 match_plain family (match.Proto proto) h = and_from _ _ (proto_plain proto) refl
 match_plain family (match.Port proto port) h = and_from _ _ (proto_plain proto) (and_from _ _ (proto_plain proto) (and_from _ _ (port_plain port h) refl))
 match_plain family (match.Statistic p) h = and_from _ _ (probability_plain p) refl
@@ -131,10 +123,10 @@ matches_plain family ms h = all_flat no_line_feed match_words ms ∙ test_weaker
 joined_plain : (words : List (List ℕ)) → words_plain words ≡ true → no_line_feed (joined words) ≡ true
 joined_plain [] h = refl
 joined_plain (w ∷ []) h = (and_parts _ _ h).0
-joined_plain (w ∷ v ∷ ws) h = let q = and_parts _ _ h in both_plain w (32 ∷ joined (v ∷ ws)) q.0 (joined_plain (v ∷ ws) q.1)
+joined_plain (w ∷ v ∷ ws) h = let q = and_parts _ _ h in test_append no_feed w (32 ∷ joined (v ∷ ws)) q.0 (joined_plain (v ∷ ws) q.1)
 
 pub rule_plain : (family : Family) (chain : List ℕ) (rule : Rule) → is_chain_name chain ≡ true → is_canonical_rule family rule ≡ true → no_line_feed (rule_line chain rule) ≡ true
 rule_plain family chain rule n h =
     let q = and_parts _ _ (and_parts _ _ h).1 in
     joined_plain (codes "-A" ∷ chain ∷ flat_map match_words rule.matches.items ++ target_words rule.target)
-    (and_from _ _ (name_plain chain n) (words_behind (flat_map match_words rule.matches.items) (target_words rule.target) (matches_plain family rule.matches.items q.0) (target_plain family rule.target q.1)))
+    (and_from _ _ (name_plain chain n) (test_append no_line_feed (flat_map match_words rule.matches.items) (target_words rule.target) (matches_plain family rule.matches.items q.0) (target_plain family rule.target q.1)))

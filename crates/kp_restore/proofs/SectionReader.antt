@@ -1,12 +1,11 @@
 -- The reader of sections, in either form: it takes the lines of sections that stand, and from each of its states an end
 -- is reached.
-use Rattle.std.proofs.Common.{◌≡◌, ℕ, true, false, cond, ◌||◌, List, [], ◌∷◌, ◌++◌, map, codes, Option, Some, None, bytes_eq, refl, sym, ap, subst, ◌∙◌, option_and_then}
-use Rattle.std.specs.List.{list_all, list_any}
+use Rattle.std.proofs.Common.{◌≡◌, ℕ, true, false, cond, List, [], ◌∷◌, ◌++◌, map, codes, Option, Some, None, refl, sym, ap, subst, ◌∙◌, option_and_then}
+use Rattle.std.specs.List.{list_all}
 use Rattle.std.specs.Cmp.Lexicographic.{nat_list_eq_equiv}
 use Rattle.std.proofs.lemmas.Bool.{and_parts, and_from, false≢true}
 use Rattle.std.proofs.lemmas.List.{append-nil}
 use Rattle.std.proofs.lemmas.List.Folds.{list_all-append, list_all-map}
-use Rattle.kp_base.proofs.SameParts.{text_test_exact}
 use Rattle.kp_base.specs.declared.address.Family.{Family}
 use Rattle.kp_base.specs.declared.address.Family.TheVariants.{V4, V6}
 use Rattle.kp_types.specs.Chains.{is_chain_name}
@@ -26,7 +25,6 @@ use Rattle.kp_restore.specs.declared.section.Row.{Row}
 use Rattle.kp_restore.specs.declared.section.Section.{Section}
 use Rattle.kp_restore.specs.declared.so_far.Body.{Body}
 use Rattle.kp_restore.specs.declared.so_far.Heading.{Heading}
-use Rattle.kp_restore.specs.declared.so_far.Pass.{Pass}
 use Rattle.kp_restore.specs.declared.so_far.Pass.TheVariants.{Ruling, Removing}
 use Rattle.kp_restore.specs.declared.so_far.Phase.{Phase}
 use Rattle.kp_restore.specs.declared.so_far.Phase.TheVariants as phase
@@ -36,37 +34,17 @@ use Rattle.kp_restore.proofs.LineTexts.{line_exact, line_plain}
 use Rattle.kp_restore.proofs.Machine.{IsReader, LeadsToEnd, run_on}
 use Rattle.kp_restore.proofs.SectionRuns.{all_known, declare_run, heading, last_in, last_of, sections_end, sections_run}
 use Rattle.kp_restore.proofs.SectionsTaken.{Tells, told}
+use Rattle.kp_restore.proofs.Tests.{some_behind}
 use Rattle.kp_lemmas.proofs.ListFacts.{test_weaker}
 
 -- ---- Names that may be declared
-
-among : (ns : List (List ℕ)) → list_all is_chain_name ns ≡ true → (n : List ℕ) → list_any (bytes_eq n) ns ≡ true → is_chain_name n ≡ true
-among [] g n h = absurd (false≢true h)
-among (m ∷ ns) g n h =
-    let k = and_parts (is_chain_name m) (list_all is_chain_name ns) g in
-    elim (bytes_eq n m) as (λ b. bytes_eq n m ≡ b → (b || list_any (bytes_eq n) ns) ≡ true → is_chain_name n ≡ true) [
-      | true ↦ λ e h. ap is_chain_name (text_test_exact n m e) ∙ k.0
-      | false ↦ λ e h. among ns k.1 n h
-    ] refl h
-
-built_in_named : (t : TableName) (n : List ℕ) → is_built_in t n ≡ true → is_chain_name n ≡ true
-built_in_named t n h = among (built_in_chains t) (all t) n h
-  where
-    all : (t : TableName) → list_all is_chain_name (built_in_chains t) ≡ true
-    all Nat = refl
-    all Filter = refl
-    all Nat6 = refl
-    all Filter6 = refl
 
 stand_all : (t : TableName) (owed : List (List ℕ)) (last : Option (List ℕ)) → names_stand t owed last owed ≡ true
 stand_all t [] last = refl
 stand_all t (o ∷ owed) last = and_from _ _ (nat_list_eq_equiv.refl o) (stand_all t owed (Some o))
 
 one_stands : (t : TableName) → names_stand t [] None (codes "A" ∷ []) ≡ true
-one_stands Nat = refl
-one_stands Filter = refl
-one_stands Nat6 = refl
-one_stands Filter6 = refl
+one_stands t = elim t as (λ t. names_stand t [] None (codes "A" ∷ []) ≡ true) [ Nat ↦ refl | Filter ↦ refl | Nat6 ↦ refl | Filter6 ↦ refl ]
 
 -- names that end the declarations of a section
 record Rest (t : TableName) (owed : List (List ℕ)) (last : Option (List ℕ)) (rows : List Row) : Type 0 where
@@ -75,17 +53,13 @@ record Rest (t : TableName) (owed : List (List ℕ)) (last : Option (List ℕ)) 
   named : list_all is_chain_name names ≡ true
   some : is_empty (rows ++ map fresh names) ≡ false
 
-rest_of : (t : TableName) (owed : List (List ℕ)) (last : Option (List ℕ)) (rows : List Row) → list_all (is_built_in t) owed ≡ true → (is_empty rows ≡ true → last ≡ None) → Rest t owed last rows
+rest_of : (t : TableName) (owed : List (List ℕ)) (last : Option (List ℕ)) (rows : List Row) → list_all is_chain_name owed ≡ true → (is_empty rows ≡ true → last ≡ None) → Rest t owed last rows
 rest_of t (o ∷ owed) last rows b n = record {
   names = o ∷ owed;
   stand = stand_all t (o ∷ owed) last;
-  named = test_weaker (is_built_in t) is_chain_name (built_in_named t) (o ∷ owed) b;
-  some = behind rows (fresh o) (map fresh owed);
+  named = b;
+  some = some_behind rows (fresh o) (map fresh owed);
 }
-  where
-    behind : (xs : List Row) (y : Row) (ys : List Row) → is_empty (xs ++ y ∷ ys) ≡ false
-    behind [] y ys = refl
-    behind (x ∷ xs) y ys = refl
 rest_of t [] last [] b n = record {
   names = codes "A" ∷ [];
   stand = ap (λ l. names_stand t [] l (codes "A" ∷ [])) (n refl) ∙ one_stands t;
@@ -115,13 +89,11 @@ ends_between Changes family done last of = ends_by Changes family [] done last r
 ends_between Whole V4 done None of = ends_by Whole V4 (bare Nat ∷ bare Filter ∷ []) done None refl refl
 ends_between Whole V4 done (Some Nat) of = ends_by Whole V4 (bare Filter ∷ []) done (Some Nat) refl refl
 ends_between Whole V4 done (Some Filter) of = ends_by Whole V4 [] done (Some Filter) refl refl
-ends_between Whole V4 done (Some Nat6) of = absurd (false≢true (of Nat6 refl))
-ends_between Whole V4 done (Some Filter6) of = absurd (false≢true (of Filter6 refl))
+ends_between Whole V4 done (Some t) of = absurd (false≢true (of t refl))
 ends_between Whole V6 done None of = ends_by Whole V6 (bare Nat6 ∷ bare Filter6 ∷ []) done None refl refl
 ends_between Whole V6 done (Some Nat6) of = ends_by Whole V6 (bare Filter6 ∷ []) done (Some Nat6) refl refl
 ends_between Whole V6 done (Some Filter6) of = ends_by Whole V6 [] done (Some Filter6) refl refl
-ends_between Whole V6 done (Some Nat) of = absurd (false≢true (of Nat refl))
-ends_between Whole V6 done (Some Filter) of = absurd (false≢true (of Filter refl))
+ends_between Whole V6 done (Some t) of = absurd (false≢true (of t refl))
 
 module _ (form : Form) (family : Family) where
   abbrev over : List Section → TableName → List Row → SoFar
@@ -144,47 +116,38 @@ module _ (form : Form) (family : Family) where
   state_ends : (done : List Section) (ph : Phase) (xs : List Line) → Tells form family done ph xs → Ends form family (record { done = done; phase = ph })
   state_ends done (phase.Between last) xs o = ends_between form family done last o.of
   state_ends done (phase.Heading h) xs i =
-      let r = rest_of h.table h.owed h.last h.rows i.owes i.first in
+      let r = rest_of h.table h.owed h.last h.rows i.named i.first in
       let rows = h.rows ++ map fresh r.names in
       let declared = heading form done h.table [] (last_of form done h.table h.last r.names) (all_known form done h.table h.declared r.names) rows in
       earlier form family (record { done = done; phase = phase.Heading h }) declared (map (declared_part h.table) r.names) (named_lines h.table r.names r.named) (declare_run form done h.table r.names h.owed h.last h.declared h.rows i.owes r.stand)
       (earlier form family declared (over done h.table rows) (line.Commit ∷ []) refl (committing done h.table rows r.some) (over_ends done h.table rows i.here.of))
-  state_ends done (phase.Body b) xs i = commits b.pass refl
-    where
-      open_of : IsTableOf family b.table
-      open_of = i.of
-
-      commits : (pass : Pass) → b.pass ≡ pass → Ends form family (record { done = done; phase = phase.Body b })
-      commits pass is =
-          earlier form family (record { done = done; phase = phase.Body b }) (over done b.table (b.passed ++ b.left)) (line.Commit ∷ []) refl
-          (ap (λ q. run (step form) (record { done = done; phase = phase.Body (record b { pass = q }) }) (line.Commit ∷ [])) is ∙ by pass)
-          (over_ends done b.table (b.passed ++ b.left) open_of)
-        where
-          by : (pass : Pass) → run (step form) (record { done = done; phase = phase.Body (record b { pass = pass }) }) (line.Commit ∷ []) ≡ Some (over done b.table (b.passed ++ b.left))
-          by Ruling = committing done b.table (b.passed ++ b.left) i.some
-          by Removing = committing done b.table (b.passed ++ b.left) i.some
+  state_ends done (phase.Body b) xs i =
+      let end = over done b.table (b.passed ++ b.left) in
+      let one = committing done b.table (b.passed ++ b.left) i.some in
+      earlier form family (record { done = done; phase = phase.Body b }) end (line.Commit ∷ []) refl
+      (elim b.pass as (λ q. run (step form) (record { done = done; phase = phase.Body (record b { pass = q }) }) (line.Commit ∷ []) ≡ Some end) [ Ruling ↦ one | Removing ↦ one ])
+      (over_ends done b.table (b.passed ++ b.left) i.of)
 
   -- ---- The reader
 
-  sound : (xs : List Line) (s : SoFar) → list_all (is_canonical_line family) xs ≡ true → run (step form) start xs ≡ Some s → IsEnd form s → (is_canonical form family s.done ≡ true) × (lines_of s.done ≡ xs)
+  sound : (xs : List Line) (s : SoFar) → list_all (is_canonical_line family) xs ≡ true → run (step form) start xs ≡ Some s → IsEnd form s
+      → (is_canonical form family s.done ≡ true) × (map line_text (lines_of s.done) ≡ map line_text xs)
   sound xs s g r end = by s.phase (told form family xs s g r) end
     where
-      by : (ph : Phase) → Tells form family s.done ph xs → may_end_in form ph ≡ true → (is_canonical form family s.done ≡ true) × (lines_of s.done ≡ xs)
+      by : (ph : Phase) → Tells form family s.done ph xs → may_end_in form ph ≡ true → (is_canonical form family s.done ≡ true) × (map line_text (lines_of s.done) ≡ map line_text xs)
       by (phase.Between last) o e = (
         and_from _ _ (ap (sections_stand form None) (sym (append-nil s.done)) ∙ o.stand [] e) (ap (list_all (is_canonical_line family)) (sym o.lines) ∙ g),
-        sym o.lines,
+        ap (map line_text) (sym o.lines),
       )
       by ph i e = absurd (false≢true e)
 
-  pub section_reader : IsReader (step form) start (IsEnd form) (λ s. s.done) line_text (is_canonical_line family) (λ ss. is_canonical form family ss ≡ true) (λ ss. map line_text (lines_of ss)) lines_of
+  pub section_reader : IsReader (step form) start (IsEnd form) (λ s. s.done) line_text (is_canonical_line family) (λ ss. is_canonical form family ss ≡ true) (λ ss. map line_text (lines_of ss))
   section_reader = record {
     exact = line_exact family;
     plain = line_plain family;
-    printed = λ ss h. refl;
-    all_good = λ ss h. (and_parts (sections_stand form None ss) (list_all (is_canonical_line family) (lines_of ss)) h).1;
     sound = sound;
     complete = λ ss h.
         let k = and_parts (sections_stand form None ss) (list_all (is_canonical_line family) (lines_of ss)) h in
-        (record { done = ss; phase = phase.Between (last_in form None ss) }, sections_run form ss [] None k.0, sections_end form ss None k.0, refl);
+        (lines_of ss, k.1, refl, record { done = ss; phase = phase.Between (last_in form None ss) }, sections_run form ss [] None k.0, sections_end form ss None k.0, refl);
     ends = λ xs s g r. state_ends s.done s.phase xs (told form family xs s g r);
   }

@@ -3,7 +3,7 @@ use Rattle.std.proofs.Common.{◌≡◌, ℕ, Bool, true, false, cond, not, ◌&
 use Rattle.std.specs.List.{list_all, list_any, flat_map, AllByRecursion}
 use Rattle.std.specs.Cmp.Lexicographic.{nat_list_eq_equiv}
 use Rattle.std.proofs.lemmas.Bool.{and_parts, and_from, false≢true, not-true, or_parts}
-use Rattle.std.proofs.lemmas.List.{append-nil}
+use Rattle.std.proofs.lemmas.List.{append-nil, map-id}
 use Rattle.std.proofs.lemmas.List.Folds.{list_all-append}
 use Rattle.std.proofs.lemmas.Simd.{map-map}
 use Rattle.kp_base.proofs.SameParts.{text_test_exact}
@@ -68,11 +68,7 @@ rules_made row (r ∷ rules) = rules_made (record row { rules = row.rules ++ r �
 
 made : (pass : Pass) (row : Row) → all_changed (before pass row) (changes_of pass row) ≡ after pass row
 made Ruling row = rules_made (fresh row.chain) row.rules
-made Removing row = by row.removed refl
-  where
-    by : (b : Bool) → row.removed ≡ b → all_changed (record row { removed = false }) (cond b (Goes ∷ []) []) ≡ row
-    by true e = λ i. record row { removed = sym e i }
-    by false e = λ i. record row { removed = sym e i }
+made Removing row = elim row.removed as (λ b. all_changed (record row { removed = false }) (cond b (Goes ∷ []) []) ≡ record row { removed = b }) [ true ↦ refl | false ↦ refl ]
 
 of_pass : (pass : Pass) (row : Row) → AllByRecursion (λ ch. pass_of ch ≡ pass) (changes_of pass row)
 of_pass Ruling row = rules row.rules
@@ -83,16 +79,10 @@ of_pass Ruling row = rules row.rules
 of_pass Removing row = elim row.removed as (λ b. AllByRecursion (λ ch. pass_of ch ≡ Removing) (cond b (Goes ∷ []) [])) [ true ↦ (refl, tt) | false ↦ tt ]
 
 pub same_chain : (row : Row) (ch : Change) → (changed row ch).chain ≡ row.chain
-same_chain row (Adds rule) = refl
-same_chain row Goes = refl
+same_chain row ch = elim ch as (λ ch. (changed row ch).chain ≡ row.chain) [ Adds rule ↦ refl | Goes ↦ refl ]
 
 chain_before : (pass : Pass) (row : Row) → (before pass row).chain ≡ row.chain
-chain_before Ruling row = refl
-chain_before Removing row = refl
-
-chain_after : (pass : Pass) (row : Row) → (after pass row).chain ≡ row.chain
-chain_after Ruling row = refl
-chain_after Removing row = refl
+chain_before pass row = elim pass as (λ pass. (before pass row).chain ≡ row.chain) [ Ruling ↦ refl | Removing ↦ refl ]
 
 -- ---- Chains that aren't passed by a name
 
@@ -191,15 +181,6 @@ module _ (form : Form) where
           ∙ skip (p ++ x ∷ []) l rows c ch k.1
           ∙ ap (λ q. seek q rows c ch) (append_assoc p (x ∷ []) l)
 
-      more_changes : (pass : Pass) (chs : List Change) (p : List Row) (x : Row) (rows : List Row) (c : List ℕ) → x.chain ≡ c → AllByRecursion (λ ch. pass_of ch ≡ pass) chs → may_all x chs ≡ true
-          → run (step form) (body pass p (x ∷ rows)) (map (line_of c) chs) ≡ Some (body pass p (all_changed x chs ∷ rows))
-      more_changes pass [] p x rows c e of m = refl
-      more_changes pass (ch ∷ chs) p x rows c e of m =
-          let k = and_parts (may_change form d t x ch) (may_all (changed x ch) chs) m in
-          first_step (body pass p (x ∷ rows)) (body pass p (changed x ch ∷ rows)) (line_of c ch) (map (line_of c) chs)
-          (body_takes pass p (x ∷ rows) c ch of.0 ∙ found p x rows c ch pass e of.0 k.0)
-          ∙ more_changes pass chs p (changed x ch) rows c (same_chain x ch ∙ e) of.1 k.1
-
       -- a state in which changes of a pass may come, for the chains that are left
       record IsAt (pass : Pass) (p l : List Row) (s : SoFar) : Type 0 where
         change : (c : List ℕ) (ch : Change) → pass_of ch ≡ pass → step form s (line_of c ch) ≡ seek p l c ch
@@ -222,54 +203,34 @@ module _ (form : Form) where
           → After pass s (flat_map (lines_in pass) rest) (p ++ (l ++ map (after pass) rest))
       pass_run pass [] p l s at a u m = record { state = s; passed = p; left = l ++ []; ran = refl; is = at; rows_are = refl }
       pass_run pass (row ∷ rest) p l s at a u m =
-          by (changes_of pass row) (lines_told pass row) (made pass row) (of_pass pass row) mays.0 (pass_run pass rest)
+          let names = and_parts (not (list_any (bytes_eq row.chain) (names_of rest))) (distinct (names_of rest)) u in
+          let mays = and_parts (may_pass pass row) (list_all (may_pass pass) rest) m in
+          subst (λ ls. After pass s (ls ++ flat_map (lines_in pass) rest) (p ++ (l ++ after pass row ∷ map (after pass) rest))) (sym (lines_told pass row))
+          (subst (λ x. After pass s (map (line_of row.chain) (changes_of pass row) ++ flat_map (lines_in pass) rest) (p ++ (l ++ x ∷ map (after pass) rest))) (made pass row)
+          (tell (changes_of pass row) (before pass row) p l s (chain_before pass row) at a.0 a.1 (of_pass pass row) mays.0
+          (λ p l x s e at a. pass_run pass rest p (l ++ x ∷ []) s at (apart_more l x row.chain e rest a (not-true _ names.0)) names.1 mays.1)))
         where
-          names : (not (list_any (bytes_eq row.chain) (names_of rest)) ≡ true) × (distinct (names_of rest) ≡ true)
-          names = and_parts (not (list_any (bytes_eq row.chain) (names_of rest))) (distinct (names_of rest)) u
-
-          mays : (may_pass pass row ≡ true) × (list_all (may_pass pass) rest ≡ true)
-          mays = and_parts (may_pass pass row) (list_all (may_pass pass) rest) m
-
-          old : Row
-          old = before pass row
-
-          Goal : Type 0
-          Goal = After pass s (lines_in pass row ++ flat_map (lines_in pass) rest) (p ++ (l ++ after pass row ∷ map (after pass) rest))
-
-          by : (chs : List Change) → lines_in pass row ≡ map (line_of row.chain) chs → all_changed (before pass row) chs ≡ after pass row → AllByRecursion (λ ch. pass_of ch ≡ pass) chs → may_all (before pass row) chs ≡ true
-              → ((p l : List Row) (s : SoFar) → IsAt pass p (l ++ map (before pass) rest) s → Apart l rest → distinct (names_of rest) ≡ true → list_all (may_pass pass) rest ≡ true
-              → After pass s (flat_map (lines_in pass) rest) (p ++ (l ++ map (after pass) rest)))
-              → After pass s (lines_in pass row ++ flat_map (lines_in pass) rest) (p ++ (l ++ after pass row ∷ map (after pass) rest))
-          by [] lines is of may more =
-              let k = more p (l ++ before pass row ∷ []) s (subst (λ q. IsAt pass p q s) (sym (append_assoc l (before pass row ∷ []) (map (before pass) rest))) at)
-              (apart_more l (before pass row) row.chain (chain_before pass row) rest a.1 (not-true _ names.0)) names.1 mays.1 in
-              record {
-                state = k.state;
-                passed = k.passed;
-                left = k.left;
-                ran = ap (λ ls. run (step form) s (ls ++ flat_map (lines_in pass) rest)) lines ∙ k.ran;
-                is = k.is;
-                rows_are = k.rows_are ∙ ap (λ q. p ++ q) (append_assoc l (before pass row ∷ []) (map (after pass) rest)) ∙ ap (λ r. p ++ (l ++ r ∷ map (after pass) rest)) is;
-              }
-          by (ch ∷ chs) lines is of may more =
-              let b = before pass row in
-              let n = after pass row in
+          -- the changes of one row, and then those of the others
+          tell : (chs : List Change) (x : Row) (p l : List Row) (s : SoFar) → x.chain ≡ row.chain → IsAt pass p (l ++ x ∷ map (before pass) rest) s → list_all (λ y. not (bytes_eq y.chain row.chain)) l ≡ true → Apart l rest
+              → AllByRecursion (λ ch. pass_of ch ≡ pass) chs → may_all x chs ≡ true
+              → ((p l : List Row) (x : Row) (s : SoFar) → x.chain ≡ row.chain → IsAt pass p ((l ++ x ∷ []) ++ map (before pass) rest) s → Apart l rest → After pass s (flat_map (lines_in pass) rest) (p ++ ((l ++ x ∷ []) ++ map (after pass) rest)))
+              → After pass s (map (line_of row.chain) chs ++ flat_map (lines_in pass) rest) (p ++ (l ++ all_changed x chs ∷ map (after pass) rest))
+          tell [] x p l s e at n a of may more =
+              subst (λ q. After pass s (flat_map (lines_in pass) rest) (p ++ q)) (append_assoc l (x ∷ []) (map (after pass) rest))
+              (more p l x s e (subst (λ q. IsAt pass p q s) (sym (append_assoc l (x ∷ []) (map (before pass) rest))) at) a)
+          tell (ch ∷ chs) x p l s e at n a of may more =
               let now = map (before pass) rest in
-              let may_ones = and_parts (may_change form d t b ch) (may_all (changed b ch) chs) may in
-              let first = at.change row.chain ch of.0 ∙ skip p l (b ∷ now) row.chain ch a.0 ∙ found (p ++ l) b now row.chain ch pass (chain_before pass row) of.0 may_ones.0 in
-              let all : run (step form) s (map (line_of row.chain) (ch ∷ chs)) ≡ Some (body pass (p ++ l) (n ∷ now)) =
-              first_step s (body pass (p ++ l) (changed b ch ∷ now)) (line_of row.chain ch) (map (line_of row.chain) chs) first
-              ∙ more_changes pass chs (p ++ l) (changed b ch) now row.chain (same_chain b ch ∙ chain_before pass row) of.1 may_ones.1
-              ∙ ap (λ r. Some (body pass (p ++ l) (r ∷ now))) is in
-              let k = more (p ++ l) (n ∷ []) (body pass (p ++ l) (n ∷ now)) (is_at pass (p ++ l) (n ∷ now)) (apart_more [] n row.chain (chain_after pass row) rest (apart_none rest) (not-true _ names.0)) names.1 mays.1 in
+              let may_ones = and_parts (may_change form d t x ch) (may_all (changed x ch) chs) may in
+              let next = body pass (p ++ l) (changed x ch ∷ now) in
+              let first = at.change row.chain ch of.0 ∙ skip p l (x ∷ now) row.chain ch n ∙ found (p ++ l) x now row.chain ch pass e of.0 may_ones.0 in
+              let k = tell chs (changed x ch) (p ++ l) [] next (same_chain x ch ∙ e) (is_at pass (p ++ l) (changed x ch ∷ now)) refl (apart_none rest) of.1 may_ones.1 more in
               record {
                 state = k.state;
                 passed = k.passed;
                 left = k.left;
-                ran = ap (λ ls. run (step form) s (ls ++ flat_map (lines_in pass) rest)) lines
-                    ∙ run_on (step form) s (body pass (p ++ l) (n ∷ now)) (map (line_of row.chain) (ch ∷ chs)) (flat_map (lines_in pass) rest) all ∙ k.ran;
+                ran = first_step s next (line_of row.chain ch) (map (line_of row.chain) chs ++ flat_map (lines_in pass) rest) first ∙ k.ran;
                 is = k.is;
-                rows_are = k.rows_are ∙ append_assoc p l (n ∷ map (after pass) rest);
+                rows_are = k.rows_are ∙ append_assoc p l (all_changed (changed x ch) chs ∷ map (after pass) rest);
               }
 
       -- ---- What may be told of rows that fit
@@ -283,21 +244,17 @@ module _ (form : Form) where
 
         pass_may : (pass : Pass) (row : Row) → fits form names row ≡ true → may_pass pass row ≡ true
         pass_may Ruling row f = rules_may (fresh row.chain) row.rules (and_parts (not row.removed || (may_remove form && is_empty row.rules)) (list_all (jumps_in form names) row.rules) f).1
-        pass_may Removing row f = by row.removed (and_parts (not row.removed || (may_remove form && is_empty row.rules)) (list_all (jumps_in form names) row.rules) f).0
-          where
-            by : (b : Bool) → (not b || (may_remove form && is_empty row.rules)) ≡ true → may_all (record row { removed = false }) (cond b (Goes ∷ []) []) ≡ true
-            by true h = let k = and_parts (may_remove form) (is_empty row.rules) h in and_from _ _ (and_from _ _ k.0 (and_from _ _ k.1 refl)) refl
-            by false h = refl
+        pass_may Removing row f =
+            elim row.removed as (λ b. (not b || (may_remove form && is_empty row.rules)) ≡ true → may_all (record row { removed = false }) (cond b (Goes ∷ []) []) ≡ true) [
+              | true ↦ λ h. let k = and_parts (may_remove form) (is_empty row.rules) h in and_from _ _ (and_from _ _ k.0 (and_from _ _ k.1 refl)) refl
+              | false ↦ λ h. refl
+            ] (and_parts (not row.removed || (may_remove form && is_empty row.rules)) (list_all (jumps_in form names) row.rules) f).0
 
         all_may : (pass : Pass) (rows : List Row) → list_all (fits form names) rows ≡ true → list_all (may_pass pass) rows ≡ true
         all_may pass [] f = refl
         all_may pass (r ∷ rows) f = let k = and_parts (fits form names r) (list_all (fits form names) rows) f in and_from _ _ (pass_may pass r k.0) (all_may pass rows k.1)
 
     -- ---- A section
-
-    after_removing : (rows : List Row) → map (after Removing) rows ≡ rows
-    after_removing [] = refl
-    after_removing (r ∷ rows) = ap (λ l. r ∷ l) (after_removing rows)
 
     pub section_run : (last : Option TableName) (rows : List Row) → may_open form last t ≡ true → is_section form (record { table = t; rows = rows }) ≡ true
         → run (step form) (record { done = done; phase = phase.Between last }) (section_lines (record { table = t; rows = rows })) ≡ Some (record { done = done ++ (record { table = t; rows = rows }) ∷ []; phase = phase.Between (Some t) })
@@ -321,7 +278,7 @@ module _ (form : Form) where
         let n = pass_run d Removing rows [] [] m.state from (apart_none rows) u (all_may d names knows Removing rows q.1) in
         let over : SoFar = record { done = done ++ (record { table = t; rows = rows }) ∷ []; phase = phase.Between (Some t) } in
         let end : step form n.state line.Commit ≡ Some over =
-        n.is.commit ∙ ap (committed done t) (n.rows_are ∙ after_removing rows) ∙ ap (λ b. cond b None (Some over)) (not-true (is_empty rows) q.0) in
+        n.is.commit ∙ ap (committed done t) (n.rows_are ∙ map-id rows) ∙ ap (λ b. cond b None (Some over)) (not-true (is_empty rows) q.0) in
         first_step (record { done = done; phase = phase.Between last }) begin (line.Section t) (map (declared_part t) names ++ (flat_map rule_parts rows ++ flat_map removed_part rows) ++ line.Commit ∷ [])
         (ap (λ b. cond b (Some begin) None) opens)
         ∙ ap (run (step form) begin) (regrouped (map (declared_part t) names) (flat_map rule_parts rows) (flat_map removed_part rows))
@@ -334,11 +291,7 @@ module _ (form : Form) where
         regrouped a b c = simp append_assoc
 
         heading_at : (d : TableParts) (l : List Row) (last : Option (List ℕ)) → IsAt d Ruling [] l (heading [] last d l)
-        heading_at d l last = record { change = told; later = λ c of. refl; commit = refl }
-          where
-            told : (c : List ℕ) (ch : Change) → pass_of ch ≡ Ruling → step form (heading [] last d l) (line_of c ch) ≡ seek d [] l c ch
-            told c (Adds rule) of = refl
-            told c Goes of = refl
+        heading_at d l last = record { change = λ c ch of. elim ch as (λ ch. step form (heading [] last d l) (line_of c ch) ≡ seek d [] l c ch) [ Adds rule ↦ refl | Goes ↦ refl ]; later = λ c of. refl; commit = refl }
 
         removing : (d : TableParts) (s : SoFar) (l : List Row) → ((c : List ℕ) → step form s (line.Removed c) ≡ seek d [] l c Goes) → (c : List ℕ) (ch : Change) → pass_of ch ≡ Removing → step form s (line_of c ch) ≡ seek d [] l c ch
         removing d s l h c Goes of = h c
@@ -351,10 +304,10 @@ module _ (form : Form) where
   last_in last [] = last
   last_in last (s ∷ ss) = last_in (Some s.table) ss
 
-  may_end_in_all : (ss : List Section) (last : Option TableName) → sections_stand form last ss ≡ true → may_end form (last_in last ss) ≡ true
-  may_end_in_all [] last h = h
-  may_end_in_all (s ∷ ss) last h =
-      may_end_in_all ss (Some s.table) (and_parts (is_section form s) (sections_stand form (Some s.table) ss) (and_parts (may_open form last s.table) (is_section form s && sections_stand form (Some s.table) ss) h).1).1
+  pub sections_end : (ss : List Section) (last : Option TableName) → sections_stand form last ss ≡ true → may_end form (last_in last ss) ≡ true
+  sections_end [] last h = h
+  sections_end (s ∷ ss) last h =
+      sections_end ss (Some s.table) (and_parts (is_section form s) (sections_stand form (Some s.table) ss) (and_parts (may_open form last s.table) (is_section form s && sections_stand form (Some s.table) ss) h).1).1
 
   pub sections_run : (ss done : List Section) (last : Option TableName) → sections_stand form last ss ≡ true
       → run (step form) (record { done = done; phase = phase.Between last }) (lines_of ss) ≡ Some (record { done = done ++ ss; phase = phase.Between (last_in last ss) })
@@ -365,6 +318,3 @@ module _ (form : Form) where
       run_on (step form) (record { done = done; phase = phase.Between last }) (record { done = done ++ s ∷ []; phase = phase.Between (Some s.table) }) (section_lines s) (lines_of ss) (section_run done s.table last s.rows p.0 q.0)
       ∙ sections_run ss (done ++ s ∷ []) (Some s.table) q.1
       ∙ ap (λ l. Some (record { done = l; phase = phase.Between (last_in (Some s.table) ss) })) (append_assoc done (s ∷ []) ss)
-
-  pub sections_end : (ss : List Section) (last : Option TableName) → sections_stand form last ss ≡ true → may_end form (last_in last ss) ≡ true
-  sections_end = may_end_in_all

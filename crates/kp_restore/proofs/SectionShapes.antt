@@ -1,5 +1,5 @@
 -- What sections that stand have: their lines within their bounds, and the sections of a family's two tables.
-use Rattle.std.proofs.Common.{◌≡◌, ◌⊎◌, Bool, true, false, cond, not, ◌&&◌, List, [], ◌∷◌, ◌++◌, map, Option, Some, None, refl, sym, ap, subst, ◌∙◌, inl, inr}
+use Rattle.std.proofs.Common.{◌≡◌, Bool, true, false, cond, not, ◌&&◌, List, [], ◌∷◌, ◌++◌, map, Option, Some, None, refl, sym, ap, subst, ◌∙◌, inl, inr}
 use Rattle.std.specs.List.{list_all, flat_map}
 use Rattle.std.proofs.lemmas.Bool.{and_parts, and_from, false≢true, not-true}
 use Rattle.std.proofs.lemmas.Grind.{flat_map-append}
@@ -25,7 +25,7 @@ use Rattle.kp_restore.specs.declared.section.Section.{Section}
 use Rattle.kp_restore.proofs.Families.{IsTableOf, which_table}
 use Rattle.kp_restore.proofs.Machine.{all_front}
 use Rattle.kp_restore.proofs.Tests.{all_both, all_flat}
-use Rattle.kp_lemmas.proofs.ListFacts.{test_weaker}
+use Rattle.kp_lemmas.proofs.ListFacts.{test_append, test_weaker}
 
 -- ---- Lines within their bounds
 
@@ -42,37 +42,25 @@ module _ (family : Family) where
   declared_good t (r ∷ rows) =
       λ i. elim (is_built_in t r.chain) as (λ b. is_canonical_line family (cond b (line.BuiltIn r.chain) (line.Declared r.chain)) ≡ is_chain_name r.chain) [ true ↦ refl | false ↦ refl ] i && declared_good t rows i
 
-  good_rules : (row : Row) → is_good family row ≡ true → list_all (is_canonical_line family) (rule_parts row) ≡ true
-  good_rules row g =
-      let k = and_parts (is_chain_name row.chain) (list_all (is_canonical_rule family) row.rules) g in
-      list_all-map good (line.Ruled row.chain) row.rules ∙ test_weaker (is_canonical_rule family) (λ rule. is_chain_name row.chain && is_canonical_rule family rule) (λ rule l. and_from _ _ k.0 l) row.rules k.1
-
-  good_removed : (row : Row) → is_good family row ≡ true → list_all (is_canonical_line family) (removed_part row) ≡ true
-  good_removed row g =
-      elim row.removed as (λ b. list_all (is_canonical_line family) (cond b (line.Removed row.chain ∷ []) []) ≡ true) [
-        | true ↦ and_from _ _ (and_parts (is_chain_name row.chain) (list_all (is_canonical_rule family) row.rules) g).0 refl
-        | false ↦ refl
-      ]
-
-  rules_good : (row : Row) → is_chain_name row.chain ≡ true → list_all (is_canonical_line family) (rule_parts row) ≡ true → is_good family row ≡ true
-  rules_good row n h =
-      and_from _ _ n
-      (test_weaker (λ rule. is_chain_name row.chain && is_canonical_rule family rule) (is_canonical_rule family) (λ rule l. (and_parts (is_chain_name row.chain) (is_canonical_rule family rule) l).1) row.rules
-      (sym (list_all-map good (line.Ruled row.chain) row.rules) ∙ h))
+  -- the lines of rows, where their names are within their bounds
+  rules_good : (row : Row) → list_all good (rule_parts row) ≡ list_all (λ rule. is_chain_name row.chain && is_canonical_rule family rule) row.rules
+  rules_good row = list_all-map good (line.Ruled row.chain) row.rules
 
   pub good_section : (t : TableName) (rows : List Row) → IsTableOf family t → list_all (is_good family) rows ≡ true → list_all (is_canonical_line family) (section_lines (record { table = t; rows = rows })) ≡ true
   good_section t rows of g =
+      let each : (p : Row → Bool) → ((row : Row) → is_chain_name row.chain ≡ true → list_all (is_canonical_rule family) row.rules ≡ true → p row ≡ true) → list_all p rows ≡ true = λ p f.
+      test_weaker (is_good family) p (λ row k. let m = and_parts (is_chain_name row.chain) (list_all (is_canonical_rule family) row.rules) k in f row m.0 m.1) rows g in
       let d = map (declared_part t) (names_of rows) in
       let r = flat_map rule_parts rows in
       let x = flat_map removed_part rows in
       and_from _ _ of
-      (list_all-append good (d ++ (r ++ x)) (line.Commit ∷ [])
-      ∙ and_from _ _
-      (list_all-append good d (r ++ x)
-      ∙ and_from _ _ (declared_good t rows ∙ test_weaker (is_good family) (λ row. is_chain_name row.chain) (λ row k. (and_parts (is_chain_name row.chain) (list_all (is_canonical_rule family) row.rules) k).0) rows g)
-      (list_all-append good r x
-      ∙ and_from _ _ (all_flat good rule_parts rows ∙ test_weaker (is_good family) (λ row. list_all good (rule_parts row)) good_rules rows g)
-      (all_flat good removed_part rows ∙ test_weaker (is_good family) (λ row. list_all good (removed_part row)) good_removed rows g)))
+      (test_append good (d ++ (r ++ x)) (line.Commit ∷ [])
+      (test_append good d (r ++ x) (declared_good t rows ∙ each (λ row. is_chain_name row.chain) (λ row n h. n))
+      (test_append good r x
+      (all_flat good rule_parts rows ∙ each (λ row. list_all good (rule_parts row))
+      (λ row n h. rules_good row ∙ test_weaker (is_canonical_rule family) (λ rule. is_chain_name row.chain && is_canonical_rule family rule) (λ rule l. and_from _ _ n l) row.rules h))
+      (all_flat good removed_part rows ∙ each (λ row. list_all good (removed_part row))
+      (λ row n h. elim row.removed as (λ b. list_all good (cond b (line.Removed row.chain ∷ []) []) ≡ true) [ true ↦ and_from _ _ n refl | false ↦ refl ]))))
       refl)
 
   pub section_good : (t : TableName) (rows : List Row) → list_all (is_canonical_line family) (section_lines (record { table = t; rows = rows })) ≡ true → IsTableOf family t × (list_all (is_good family) rows ≡ true)
@@ -85,7 +73,9 @@ module _ (family : Family) where
       let c = all_front good d (r ++ x) b.0 in
       let e = all_front good r x c.1 in (
         a.0,
-        all_both (λ row. is_chain_name row.chain) (λ row. list_all good (rule_parts row)) (is_good family) rules_good rows (sym (declared_good t rows) ∙ c.0) (sym (all_flat good rule_parts rows) ∙ e.0),
+        all_both (λ row. is_chain_name row.chain) (λ row. list_all good (rule_parts row)) (is_good family)
+            (λ row n h. and_from _ _ n (test_weaker (λ rule. is_chain_name row.chain && is_canonical_rule family rule) (is_canonical_rule family) (λ rule l. (and_parts (is_chain_name row.chain) (is_canonical_rule family rule) l).1) row.rules (sym (rules_good row) ∙ h)))
+            rows (sym (declared_good t rows) ∙ c.0) (sym (all_flat good rule_parts rows) ∙ e.0),
       )
 
   -- ---- The sections of a family's tables
@@ -95,12 +85,6 @@ module _ (family : Family) where
     pub section : is_section form (record { table = t; rows = rows }) ≡ true
     pub good_rows : list_all (is_good family) rows ≡ true
 
-  abbrev first : TableName
-  first = nat_of family
-
-  abbrev second : TableName
-  second = filter_of family
-
   -- a section, if it has a chain
   abbrev pub if_some : TableName → List Row → List Section
   if_some t rows = cond (is_empty rows) [] ((record { table = t; rows = rows }) ∷ [])
@@ -109,25 +93,13 @@ module _ (family : Family) where
   IsIfSome form t rows = is_empty rows ≡ false → IsIn form t rows
 
   no_more : (t : TableName) → is_next (filter_of family) t ≡ false
-  no_more t = by family
-    where
-      by : (family : Family) → is_next (filter_of family) t ≡ false
-      by V4 = refl
-      by V6 = refl
+  no_more t = elim family as (λ f. is_next (filter_of f) t ≡ false) [ V4 ↦ refl | V6 ↦ refl ]
 
   not_twice : is_next (nat_of family) (nat_of family) ≡ false
-  not_twice = by family
-    where
-      by : (family : Family) → is_next (nat_of family) (nat_of family) ≡ false
-      by V4 = refl
-      by V6 = refl
+  not_twice = elim family as (λ f. is_next (nat_of f) (nat_of f) ≡ false) [ V4 ↦ refl | V6 ↦ refl ]
 
   filter_next : is_next (nat_of family) (filter_of family) ≡ true
-  filter_next = by family
-    where
-      by : (family : Family) → is_next (nat_of family) (filter_of family) ≡ true
-      by V4 = refl
-      by V6 = refl
+  filter_next = elim family as (λ f. is_next (nat_of f) (filter_of f) ≡ true) [ V4 ↦ refl | V6 ↦ refl ]
 
   module _ (form : Form) where
     -- of sections that stand the first
@@ -159,13 +131,10 @@ module _ (family : Family) where
     after_nat [] h g = ([], refl, λ e. absurd (false≢true (sym e)))
     after_nat (s ∷ ss) h g =
         let k = heads (Some (nat_of family)) s ss h g in
-        by (which_table family s.table k.1) k
-      where
-        by : (s.table ≡ nat_of family) ⊎ (s.table ≡ filter_of family)
-            → (is_next (nat_of family) s.table ≡ true) × IsTableOf family s.table × IsIn form s.table s.rows × (is_empty s.rows ≡ false) × (sections_stand form (Some s.table) ss ≡ true) × (list_all (is_canonical_line family) (lines_of ss) ≡ true)
-            → (f : List Row) × (s ∷ ss ≡ if_some (filter_of family) f) × IsIfSome form (filter_of family) f
-        by (inl is) k = absurd (false≢true (sym not_twice ∙ ap (is_next (nat_of family)) (sym is) ∙ k.0))
-        by (inr is) k = filter_behind s ss is k.2 k.3 k.4
+        elim (which_table family s.table k.1) [
+          | inl is ↦ absurd (false≢true (sym not_twice ∙ ap (is_next (nat_of family)) (sym is) ∙ k.0))
+          | inr is ↦ filter_behind s ss is k.2 k.3 k.4
+        ]
 
     -- all sections of a text are those of both tables
     pub both_tables : (ss : List Section) → is_canonical form family ss ≡ true
@@ -174,17 +143,14 @@ module _ (family : Family) where
     both_tables (s ∷ ss) c =
         let p = and_parts (sections_stand form None (s ∷ ss)) (list_all (is_canonical_line family) (lines_of (s ∷ ss))) c in
         let k = heads None s ss p.0 p.1 in
-        by (which_table family s.table k.1) k
-      where
-        by : (s.table ≡ nat_of family) ⊎ (s.table ≡ filter_of family)
-            → (may_open form None s.table ≡ true) × IsTableOf family s.table × IsIn form s.table s.rows × (is_empty s.rows ≡ false) × (sections_stand form (Some s.table) ss ≡ true) × (list_all (is_canonical_line family) (lines_of ss) ≡ true)
-            → (n f : List Row) × (s ∷ ss ≡ if_some (nat_of family) n ++ if_some (filter_of family) f) × IsIfSome form (nat_of family) n × IsIfSome form (filter_of family) f
-        by (inl is) k =
-            let rest = after_nat ss (ap (λ t. sections_stand form (Some t) ss) (sym is) ∙ k.4) k.5 in
-            (s.rows, rest.0, (λ i. alone (nat_of family) s is k.3 i ++ rest.1 i), λ e. subst (λ t. IsIn form t s.rows) is k.2, rest.2)
-        by (inr is) k =
-            let rest = filter_behind s ss is k.2 k.3 k.4 in
-            ([], rest.0, rest.1, λ e. absurd (false≢true (sym e)), rest.2)
+        elim (which_table family s.table k.1) [
+          | inl is ↦
+              let rest = after_nat ss (ap (λ t. sections_stand form (Some t) ss) (sym is) ∙ k.4) k.5 in
+              (s.rows, rest.0, (λ i. alone (nat_of family) s is k.3 i ++ rest.1 i), λ e. subst (λ t. IsIn form t s.rows) is k.2, rest.2)
+          | inr is ↦
+              let rest = filter_behind s ss is k.2 k.3 k.4 in
+              ([], rest.0, rest.1, λ e. absurd (false≢true (sym e)), rest.2)
+        ]
 
     if_good : (t : TableName) (rows : List Row) → IsTableOf family t → IsIfSome form t rows → list_all (is_canonical_line family) (lines_of (if_some t rows)) ≡ true
     if_good t [] of i = refl
@@ -211,27 +177,16 @@ module _ (family : Family) where
   pub whole_stand : (n f : List Row) → is_empty n ≡ false → is_empty f ≡ false → IsIn Whole (nat_of family) n → IsIn Whole (filter_of family) f → sections_stand Whole None (if_some (nat_of family) n ++ if_some (filter_of family) f) ≡ true
   whole_stand [] f e g i j = absurd (false≢true (sym e))
   whole_stand (r ∷ n) [] e g i j = absurd (false≢true (sym g))
-  whole_stand (r ∷ n) (q ∷ f) e g i j = and_from _ _ (begins family) (and_from _ _ i.section (and_from _ _ filter_next (and_from _ _ j.section (ends family))))
-    where
-      begins : (family : Family) → may_open Whole None (nat_of family) ≡ true
-      begins V4 = refl
-      begins V6 = refl
-
-      ends : (family : Family) → may_end Whole (Some (filter_of family)) ≡ true
-      ends V4 = refl
-      ends V6 = refl
+  whole_stand (r ∷ n) (q ∷ f) e g i j =
+      let begins = elim family as (λ f. may_open Whole None (nat_of f) ≡ true) [ V4 ↦ refl | V6 ↦ refl ] in
+      let ends = elim family as (λ f. may_end Whole (Some (filter_of f)) ≡ true) [ V4 ↦ refl | V6 ↦ refl ] in
+      and_from _ _ begins (and_from _ _ i.section (and_from _ _ filter_next (and_from _ _ j.section ends)))
 
   -- whole tables have both sections
   pub whole_has_both : (n f : List Row) → sections_stand Whole None (if_some (nat_of family) n ++ if_some (filter_of family) f) ≡ true → (is_empty n ≡ false) × (is_empty f ≡ false)
   whole_has_both [] [] h = absurd (false≢true h)
-  whole_has_both [] (q ∷ f) h = absurd (by family (and_parts (may_open Whole None (filter_of family)) _ h).0)
-    where
-      by : (family : Family) → may_open Whole None (filter_of family) ≡ true → ⊥
-      by V4 e = false≢true e
-      by V6 e = false≢true e
-  whole_has_both (r ∷ n) [] h = absurd (by family (and_parts (is_section Whole (record { table = nat_of family; rows = r ∷ n })) _ (and_parts (may_open Whole None (nat_of family)) _ h).1).1)
-    where
-      by : (family : Family) → may_end Whole (Some (nat_of family)) ≡ true → ⊥
-      by V4 e = false≢true e
-      by V6 e = false≢true e
+  whole_has_both [] (q ∷ f) h = absurd (false≢true (sym (elim family as (λ f. may_open Whole None (filter_of f) ≡ false) [ V4 ↦ refl | V6 ↦ refl ]) ∙ (and_parts (may_open Whole None (filter_of family)) _ h).0))
+  whole_has_both (r ∷ n) [] h =
+      let over = (and_parts (is_section Whole (record { table = nat_of family; rows = r ∷ n })) _ (and_parts (may_open Whole None (nat_of family)) _ h).1).1 in
+      absurd (false≢true (sym (elim family as (λ f. may_end Whole (Some (nat_of f)) ≡ false) [ V4 ↦ refl | V6 ↦ refl ]) ∙ over))
   whole_has_both (r ∷ n) (q ∷ f) h = (refl, refl)

@@ -8,8 +8,8 @@ use Rattle.std.proofs.lemmas.List.Folds.{list_all-append}
 use Rattle.std.proofs.lemmas.Option.{cond_some, none-some, same_Some}
 use Rattle.kp_base.proofs.SameParts.{text_test_exact}
 use Rattle.kp_base.specs.declared.address.Family.{Family}
+use Rattle.kp_types.specs.Chains.{is_chain_name}
 use Rattle.kp_types.specs.declared.chain.TableName.{TableName}
-use Rattle.kp_types.specs.declared.rule.Rule.{Rule}
 use Rattle.kp_object_defs.specs.Desired.{is_empty}
 use Rattle.kp_table_defs.specs.Ranks.{is_built_in}
 use Rattle.kp_table_defs.specs.Rebuild.{TableParts}
@@ -32,8 +32,9 @@ use Rattle.kp_restore.specs.declared.so_far.Phase.{Phase}
 use Rattle.kp_restore.specs.declared.so_far.Phase.TheVariants as phase
 use Rattle.kp_restore.specs.declared.so_far.SoFar.{SoFar}
 use Rattle.kp_restore.proofs.Families.{IsTableOf}
-use Rattle.kp_restore.proofs.SectionRows.{Knows, all_at, all_swap, jumps_known, knows_more, knows_none, names_swap, owed_built_in}
+use Rattle.kp_restore.proofs.SectionRows.{Knows, all_at, all_swap, jumps_known, knows_more, knows_none, names_swap, owed_built_in, owed_named}
 use Rattle.kp_restore.proofs.SectionRuns.{line_of, same_chain}
+use Rattle.kp_restore.proofs.Tests.{no_items, some_behind}
 use Rattle.kp_lemmas.proofs.ListFacts.{test_weaker}
 
 -- ---- Rows of a section that is open
@@ -48,11 +49,7 @@ is_fresh row = not row.removed && is_empty row.rules
 
 no_rules : (rows : List Row) → list_all is_fresh rows ≡ true → flat_map rule_parts rows ≡ []
 no_rules [] h = refl
-no_rules (r ∷ rows) h = let k = and_parts _ _ h in bare r.rules (and_parts _ _ k.0).1 (no_rules rows k.1)
-  where
-    bare : (rules : List Rule) → is_empty rules ≡ true → flat_map rule_parts rows ≡ [] → map (line.Ruled r.chain) rules ++ flat_map rule_parts rows ≡ []
-    bare [] h rest = rest
-    bare (x ∷ xs) h rest = absurd (false≢true h)
+no_rules (r ∷ rows) h = let k = and_parts _ _ h in λ i. map (line.Ruled r.chain) (no_items r.rules (and_parts _ _ k.0).1 i) ++ no_rules rows k.1 i
 
 no_removes : (rows : List Row) → list_all is_kept rows ≡ true → flat_map removed_part rows ≡ []
 no_removes [] h = refl
@@ -105,12 +102,8 @@ module _ (form : Form) where
   fresh_fits : (names : List (List ℕ)) (rows : List Row) → list_all is_fresh rows ≡ true → list_all (fits form names) rows ≡ true
   fresh_fits names rows h = test_weaker is_fresh (fits form names) one rows h
     where
-      bare : (rules : List Rule) → is_empty rules ≡ true → list_all (jumps_in form names) rules ≡ true
-      bare [] e = refl
-      bare (x ∷ xs) e = absurd (false≢true e)
-
       one : (r : Row) → is_fresh r ≡ true → fits form names r ≡ true
-      one r k = let p = and_parts (not r.removed) (is_empty r.rules) k in and_from _ _ (or_left (not r.removed) (may_remove form && is_empty r.rules) p.0) (bare r.rules p.1)
+      one r k = let p = and_parts (not r.removed) (is_empty r.rules) k in and_from _ _ (or_left (not r.removed) (may_remove form && is_empty r.rules) p.0) (ap (list_all (jumps_in form names)) (no_items r.rules p.1))
 
   changed_fits : (t : TableName) (d : TableParts) (names : List (List ℕ)) (row : Row) (ch : Change) → Knows form t d names → may_change form d t row ch ≡ true → is_kept row ≡ true → fits form names row ≡ true → fits form names (changed row ch) ≡ true
   changed_fits t d names row (Adds rule) k may kept f =
@@ -130,10 +123,6 @@ module _ (form : Form) where
   ready_changed : (before : List Row) (row : Row) (ch : Change) (behind : List Row) → is_kept row ≡ true → Ready (pass_of ch) (before ++ row ∷ behind) (row ∷ behind) → Ready (pass_of ch) (before ++ changed row ch ∷ behind) (changed row ch ∷ behind)
   ready_changed before row (Adds rule) behind kept r = (all_swap is_kept before row (record row { rules = row.rules ++ rule ∷ [] }) behind r.0 kept, r.1)
   ready_changed before row Goes behind kept r = r
-
-  some_right : (xs : List Row) (y : Row) (ys : List Row) → is_empty (xs ++ y ∷ ys) ≡ false
-  some_right [] y ys = refl
-  some_right (x ∷ xs) y ys = refl
 
   module _ (family : Family) where
     -- ---- What the state says of the lines so far
@@ -155,6 +144,7 @@ module _ (form : Form) where
       pub here : IsOpen done h.table h.declared h.rows xs
       pub stand : (ns : List (List ℕ)) → names_stand h.table h.owed h.last ns ≡ true → names_stand h.table (owed form h.table) None (names_of h.rows ++ ns) ≡ true
       pub owes : list_all (is_built_in h.table) h.owed ≡ true
+      pub named : list_all is_chain_name h.owed ≡ true
       pub first : is_empty h.rows ≡ true → h.last ≡ None
       pub fresh_ones : list_all is_fresh h.rows ≡ true
 
@@ -193,6 +183,7 @@ module _ (form : Form) where
             };
             stand = λ ns k. k;
             owes = owed_built_in form t;
+            named = owed_named form t;
             first = λ k. refl;
             fresh_ones = refl;
           })
@@ -200,9 +191,9 @@ module _ (form : Form) where
       -- ---- Declarations
 
       -- a chain of this line is declared, with these still owed
-      declare_leads : (h : Heading) (rest : List (List ℕ)) (n : List ℕ) (l : Line) (next : SoFar) (xs : List Line) → InHeading done h xs → list_all (is_built_in h.table) rest ≡ true → declared_part h.table n ≡ l
+      declare_leads : (h : Heading) (rest : List (List ℕ)) (n : List ℕ) (l : Line) (next : SoFar) (xs : List Line) → InHeading done h xs → list_all (is_built_in h.table) rest ≡ true → list_all is_chain_name rest ≡ true → declared_part h.table n ≡ l
           → ((ns : List (List ℕ)) → names_stand h.table rest (Some n) ns ≡ true → names_stand h.table h.owed h.last (n ∷ ns) ≡ true) → declared form done h rest n ≡ next → Next next (xs ++ l ∷ [])
-      declare_leads h rest n l next xs i owes part on is =
+      declare_leads h rest n l next xs i owes named part on is =
           let names : names_of (h.rows ++ fresh n ∷ []) ≡ names_of h.rows ++ n ∷ [] = map-append (λ (r : Row). r.chain) h.rows (fresh n ∷ []) in
           let ones : list_all is_fresh (h.rows ++ fresh n ∷ []) ≡ true = list_all-append is_fresh h.rows (fresh n ∷ []) ∙ and_from _ _ i.fresh_ones refl in
           subst (λ s. Next s (xs ++ l ∷ [])) is (record {
@@ -217,7 +208,8 @@ module _ (form : Form) where
             };
             stand = λ ns k. ap (λ q. names_stand h.table (owed form h.table) None (q ++ ns)) names ∙ ap (names_stand h.table (owed form h.table) None) (append_assoc (names_of h.rows) (n ∷ []) ns) ∙ i.stand (n ∷ ns) (on ns k);
             owes = owes;
-            first = λ k. absurd (false≢true (sym (some_right h.rows (fresh n) []) ∙ k));
+            named = named;
+            first = λ k. absurd (false≢true (sym (some_behind h.rows (fresh n) []) ∙ k));
             fresh_ones = ones;
           })
 
@@ -255,7 +247,7 @@ module _ (form : Form) where
                         ∙ all_swap (fits form (names_of all)) p row (changed row ch) rows fit (changed_fits t d (names_of all) row ch w.here.knows s.0 kept (all_at (fits form (names_of all)) p row rows fit));
                   };
                   ready = ready_changed p row ch rows kept ready;
-                  some = some_right p (changed row ch) rows;
+                  some = some_behind p (changed row ch) rows;
                   of = w.here.of;
                 })
 
@@ -294,13 +286,13 @@ module _ (form : Form) where
       heading_leads h (o ∷ ow) (line.BuiltIn c) next xs is i e =
           let s = cond_some (bytes_eq c o) (declared form done h ow c) next e in
           let p = and_parts (is_built_in h.table o) (list_all (is_built_in h.table) ow) (sym (ap (list_all (is_built_in h.table)) is) ∙ i.owes) in
-          declare_leads h ow c (line.BuiltIn c) next xs i p.1 (ap (λ b. cond b (line.BuiltIn c) (line.Declared c)) (ap (is_built_in h.table) (text_test_exact c o s.0) ∙ p.0))
+          declare_leads h ow c (line.BuiltIn c) next xs i p.1 (and_parts (is_chain_name o) (list_all is_chain_name ow) (sym (ap (list_all is_chain_name) is) ∙ i.named)).1 (ap (λ b. cond b (line.BuiltIn c) (line.Declared c)) (ap (is_built_in h.table) (text_test_exact c o s.0) ∙ p.0))
           (λ ns k. ap (λ q. names_stand h.table q h.last (c ∷ ns)) is ∙ and_from _ _ s.0 k) s.1
       heading_leads h (o ∷ ow) l next xs is i e = absurd (none-some next e)
       heading_leads h [] (line.Declared c) next xs is i e =
           let s = cond_some (may_follow h.table h.last c) (declared form done h [] c) next e in
           let p = and_parts (not (is_built_in h.table c)) (is_behind h.table h.last c) s.0 in
-          declare_leads h [] c (line.Declared c) next xs i refl (ap (λ b. cond b (line.BuiltIn c) (line.Declared c)) (not-true (is_built_in h.table c) p.0))
+          declare_leads h [] c (line.Declared c) next xs i refl refl (ap (λ b. cond b (line.BuiltIn c) (line.Declared c)) (not-true (is_built_in h.table c) p.0))
           (λ ns k. ap (λ q. names_stand h.table q h.last (c ∷ ns)) is ∙ and_from _ _ s.0 k) s.1
       heading_leads h [] (line.Ruled c rule) next xs is i e =
           change_leads h.table h.declared (Adds rule) [] h.rows h.rows c next xs refl (heading_whole h xs is i) (heading_ready Ruling h.rows i.fresh_ones) e

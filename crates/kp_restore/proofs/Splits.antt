@@ -1,5 +1,5 @@
 -- What stands before and behind a name.
-use Rattle.std.proofs.Common.{◌≡◌, ℕ, ◌-◌, true, false, bytes_eq, IfSome, IsSome, length-append, List, ◌++◌, length, take, drop, Option, Some, None, sym, ap, ◌∙◌, arith}
+use Rattle.std.proofs.Common.{◌≡◌, ℕ, ◌-◌, true, false, bytes_eq, length-append, List, ◌++◌, length, take, drop, sym, ap, ◌∙◌, arith}
 use Rattle.std.proofs.Math.Seq.{take-append_seam, drop-append_seam}
 use Rattle.std.proofs.lemmas.List.{take-append-drop}
 use Rattle.std.proofs.lemmas.Slice.Eq.{bytes_eq-Decides}
@@ -33,11 +33,3 @@ module _ (front back bytes : List ℕ) where
           let k = length behind - length back in
           let whole : name ++ back ≡ behind = (λ i. name_is i ++ sym ((bytes_eq-Decides (drop k behind) back).0 b) i) ∙ take-append-drop k behind in
           (λ i. sym ((bytes_eq-Decides (take (length front) bytes) front).0 f) i ++ (whole ∙ is) i) ∙ take-append-drop (length front) bytes
-
-pub if_some : {X : Type 0} (o : Option X) (P Q : X → Type 0) → ((x : X) → P x → Q x) → IfSome o P → IfSome o Q
-if_some None P Q f h = tt
-if_some (Some x) P Q f h = f x h
-
-pub some_is : {X : Type 0} {o : Option X} → o ≡ None → IsSome o → ⊥
-some_is {o = None} h s = cc
-some_is {o = Some x} h s = cc

@@ -1,7 +1,8 @@
 -- What tests say of all elements of a list.
-use Rattle.std.proofs.Common.{◌≡◌, Bool, true, false, cond, not, ◌&&◌, ◌||◌, List, [], ◌∷◌, refl, ap, ◌∙◌}
+use Rattle.std.proofs.Common.{◌≡◌, Bool, true, false, cond, not, ◌&&◌, ◌||◌, List, [], ◌∷◌, ◌++◌, refl, ap, ◌∙◌}
 use Rattle.std.specs.List.{list_all, list_any, filter, flat_map, AllByRecursion}
-use Rattle.std.proofs.lemmas.Bool.{and_parts, and_from, not-true}
+use Rattle.kp_object_defs.specs.Desired.{is_empty}
+use Rattle.std.proofs.lemmas.Bool.{and_parts, and_from, false≢true, not-true}
 use Rattle.std.proofs.lemmas.List.Folds.{list_all-append}
 
 -- what follows from two tests
@@ -33,3 +34,12 @@ filter_none p [] h = refl
 filter_none p (x ∷ xs) h =
     let k = and_parts _ _ h in
     ap (λ b. cond b (x ∷ filter p xs) (filter p xs)) (not-true (p x) k.0) ∙ filter_none p xs k.1
+
+-- a list with an element isn't empty
+pub some_behind : {X : Type 0} (xs : List X) (y : X) (ys : List X) → is_empty (xs ++ y ∷ ys) ≡ false
+some_behind [] y ys = refl
+some_behind (x ∷ xs) y ys = refl
+
+pub no_items : {A : Type 0} (xs : List A) → is_empty xs ≡ true → xs ≡ []
+no_items [] h = refl
+no_items (x ∷ xs) h = absurd (false≢true h)

@@ -1,4 +1,4 @@
-use Rattle.kp_restore.proofs.ReadLines.{no_line}
+use Rattle.kp_restore.proofs.LineTexts.{no_line}
 use Rattle.kp_restore.proofs.line.read_line.Goals as goal
 
 pub returns-clause-none : goal.returns-clause-none

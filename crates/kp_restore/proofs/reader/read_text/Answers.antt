@@ -1,14 +1,14 @@
-use Rattle.std.proofs.Common.{subst}
+use Rattle.std.proofs.Common.{subst, IfSome}
 use Rattle.std.proofs.lemmas.Option.{IfSome_then}
-use Rattle.kp_restore.specs.Reading.{IsRead, Refused, Unfinished}
+use Rattle.kp_restore.specs.Reading.{IsRead, IsTaken, Refused, Unfinished}
 use Rattle.kp_restore.specs.Steps.{start, step}
-use Rattle.kp_restore.proofs.Reading.{read_taken, one_number, answered, not_answered}
+use Rattle.kp_restore.proofs.Reading.{read_more, one_number, answered, not_answered}
 use Rattle.kp_restore.proofs.reader.read_text.Goals as goal
 
 pub loop-line-preserved : goal.loop-line-preserved
 loop-line-preserved c =
-    read_taken c.loop-line.invariant c.in-Some.line.now c.in-Some.behind.now c.in-Some.ensures.parts c.in-Some-2.next
-    c.in_ok-next.field-0 c.in-Some-2.is c.in_ok-next.ensures.taken
+    read_more c.loop-line.invariant c.in-Some.line.now c.in-Some.behind.now c.in-Some.ensures.parts
+    (subst (λ o. IfSome o (IsTaken c.args.family (step c.args.form) c.loop-line.so_far c.in-Some.line.now)) c.in-Some-2.is c.in_ok-next.ensures.taken)
 
 pub returns-in-None-clause-bad : goal.returns-in-None-clause-bad
 returns-in-None-clause-bad c n is = (
