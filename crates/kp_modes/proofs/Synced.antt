@@ -28,7 +28,7 @@ use Rattle.kp_udp_endpoints.specs.Endpoints as endpoints
 use Rattle.kp_modes.specs.Modes.{change_lines}
 
 -- the objects that syncs cover stand under their own keys
-own_covered : OwnKeysAfterEvents → (p : PlaneParts) (n : ℕ)
+pub own_covered : OwnKeysAfterEvents → (p : PlaneParts) (n : ℕ)
     → AreUnderOwnKeys (objects_covered p.events p.counts n)
 own_covered own p n = own (covered p.events p.counts n)
 

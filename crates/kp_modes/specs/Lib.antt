@@ -1,2 +1,4 @@
+pub mod Mapping
 pub mod Modes
+pub mod Paths
 pub mod Tracked

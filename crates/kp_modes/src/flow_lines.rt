@@ -102,7 +102,7 @@ fn masked_words(masked: bool) -> &'static str
 }
 
 /// Adds that a packet passed no rule, where its trail is asked for.
-fn push_no_trail(text: &mut String, number: u64, trail: bool) -> Result<(), NoMemory>
+pub(crate) fn push_no_trail(text: &mut String, number: u64, trail: bool) -> Result<(), NoMemory>
     ensures added { OnOk result (string_bytes text.new
         ≡ string_bytes text.old ++ trail_if trail number []) }
     ensures front { OnErr result (HasFront text.new text.old) }

@@ -5,7 +5,7 @@ use Rattle.std.specs.Str.Parse.{digits_value}
 use Rattle.std.proofs.lemmas.Bool.Decides.{nat_tests}
 use Rattle.kp_gen_defs.specs.Script.{IsPlan}
 use Rattle.kp_words.specs.declared.mode.Mode.{Mode}
-use Rattle.kp_words.specs.declared.mode.Mode.TheVariants.{Replay, Changes, Health, Track, Live, Gen}
+use Rattle.kp_words.specs.declared.mode.Mode.TheVariants.{Replay, Changes, Health, Track, Vmap, Paths, Live, Gen}
 use Rattle.kp_words.specs.Words.{is_number, within, number_of, replay_with, gen_of, named_mode, workers_word, mode_of_two, mode_of_three, mode_of_four, mode_of_rest, mode_of}
 
 -- the numbers of `gen` are within the bounds of a script
@@ -15,6 +15,8 @@ Fits (Some (Replay workers)) = ⊤
 Fits (Some Changes) = ⊤
 Fits (Some Health) = ⊤
 Fits (Some Track) = ⊤
+Fits (Some Vmap) = ⊤
+Fits (Some Paths) = ⊤
 Fits (Some Live) = ⊤
 Fits (Some (Gen seed services pods)) = IsPlan (record { seed = seed; services = services; pods = pods })
 
@@ -72,7 +74,9 @@ named_fits name =
     (if_fits (bytes_eq name (codes "changes")) _ _ tt
     (if_fits (bytes_eq name (codes "health")) _ _ tt
     (if_fits (bytes_eq name (codes "track")) _ _ tt
-    (if_fits (bytes_eq name (codes "live")) (Some Live) None tt tt))))
+    (if_fits (bytes_eq name (codes "vmap")) _ _ tt
+    (if_fits (bytes_eq name (codes "paths")) _ _ tt
+    (if_fits (bytes_eq name (codes "live")) (Some Live) None tt tt))))))
 
 two_fit : (first second : List ℕ) → Fits (mode_of_two first second)
 two_fit first second =

@@ -14,6 +14,8 @@ module _ (from : Input) (to : Output) (input : Input) (output : Output) where
   ends_no_usage (Some mode.Changes) asks ends = ends
   ends_no_usage (Some mode.Health) asks ends = ends
   ends_no_usage (Some mode.Track) asks ends = ends
+  ends_no_usage (Some mode.Vmap) asks ends = ends
+  ends_no_usage (Some mode.Paths) asks ends = ends
   ends_no_usage (Some mode.Live) asks ends = ends
   ends_no_usage (Some (mode.Gen seed services pods)) asks ends = absurd (cc)
 

@@ -3,7 +3,9 @@ use Rattle.std.proofs.Common.{ℕ, Bool, List, Some, inl, inr, refl}
 use Rattle.kp_io.specs.Ends.{Input, Output}
 use Rattle.kp_gen_defs.specs.declared.plan.ScriptPlan.{ScriptPlan}
 use Rattle.kp_mode_defs.specs.Summing.{gen_of, gen_text}
+use Rattle.kp_modes.specs.Mapping.{mapping}
 use Rattle.kp_modes.specs.Modes.{changing, healthy}
+use Rattle.kp_modes.specs.Paths.{pathing}
 use Rattle.kp_track_mode_defs.specs.TrackMode.{tracking}
 use Rattle.kp_words.specs.declared.mode.Mode.{Mode}
 use Rattle.kp_words.specs.declared.mode.Mode.TheVariants as mode
@@ -50,6 +52,8 @@ by_words (mode.Replay workers) status free ends = by_text free replayed status e
 by_words mode.Changes status free ends = by_text free (in_mode changing) status ends
 by_words mode.Health status free ends = by_text free (in_mode healthy) status ends
 by_words mode.Track status free ends = by_text free (in_mode tracking) status ends
+by_words mode.Vmap status free ends = by_text free (in_mode mapping) status ends
+by_words mode.Paths status free ends = by_text free (in_mode pathing) status ends
 by_words mode.Live status free ends = by_live free status ends
 by_words (mode.Gen seed services pods) status free ends =
     let plan : ScriptPlan = record { seed = seed; services = services; pods = pods } in

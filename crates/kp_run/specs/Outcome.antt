@@ -16,7 +16,9 @@ use Rattle.kp_run_defs.specs.ReplayText.{Progress, Standing}
 use Rattle.kp_mode_defs.specs.Mode.{LineIn, Mode, Place}
 use Rattle.kp_mode_defs.specs.Summing.{gen_of, gen_text}
 use Rattle.kp_live.specs.Written as live
+use Rattle.kp_modes.specs.Mapping.{mapping}
 use Rattle.kp_modes.specs.Modes.{changing, healthy}
+use Rattle.kp_modes.specs.Paths.{pathing}
 use Rattle.kp_track_mode_defs.specs.TrackMode.{tracking}
 use Rattle.kp_run.specs.declared.status.Status.{Status}
 use Rattle.kp_run.specs.declared.status.Status.TheVariants.{Done, NoMemory, Usage, LinesRefused, ReadFault, WriteFault, InputTooLong}
@@ -222,6 +224,8 @@ reads_source (Some (mode.Replay workers)) = true
 reads_source (Some mode.Changes) = true
 reads_source (Some mode.Health) = true
 reads_source (Some mode.Track) = true
+reads_source (Some mode.Vmap) = true
+reads_source (Some mode.Paths) = true
 reads_source (Some mode.Live) = true
 reads_source (Some (mode.Gen seed services pods)) = false
 
@@ -232,6 +236,8 @@ needs_threads (Some (mode.Replay workers)) = nat_lt 1 workers
 needs_threads (Some mode.Changes) = false
 needs_threads (Some mode.Health) = false
 needs_threads (Some mode.Track) = false
+needs_threads (Some mode.Vmap) = false
+needs_threads (Some mode.Paths) = false
 needs_threads (Some mode.Live) = true
 needs_threads (Some (mode.Gen seed services pods)) = false
 
@@ -242,6 +248,8 @@ EndsBy (Some (mode.Replay workers)) status from to input output = Ends status fr
 EndsBy (Some mode.Changes) status from to input output = EndsIn changing status from to input output
 EndsBy (Some mode.Health) status from to input output = EndsIn healthy status from to input output
 EndsBy (Some mode.Track) status from to input output = EndsIn tracking status from to input output
+EndsBy (Some mode.Vmap) status from to input output = EndsIn mapping status from to input output
+EndsBy (Some mode.Paths) status from to input output = EndsIn pathing status from to input output
 EndsBy (Some mode.Live) status from to input output = EndsLive status from to input output
 EndsBy (Some (mode.Gen seed services pods)) status from to input output =
     EndsGen (record { seed = seed; services = services; pods = pods }) status to output

@@ -3,6 +3,7 @@ ghost use Rattle.std.specs.Prelude.{◌≡◌, map, string_bytes, false, true, I
 ghost use Rattle.kp_words.specs.Words.{mode_of};
 ghost use Rattle.kp_run.specs.Alone as alone;
 ghost use Rattle.kp_run.specs.Outcome as outcome;
+ghost use Rattle.kp_modes.specs.Mapping.{mapping};
 ghost use Rattle.kp_track_mode_defs.specs.TrackMode.{tracking};
 
 use crate::ending::{Stop, ended, usage};
@@ -14,7 +15,7 @@ use crate::streams::run_live;
 use kp_gate::Gate;
 use kp_gen::ScriptPlan;
 use kp_io::{Sink, Source};
-use kp_modes::{Changing, Healthy, Tracking};
+use kp_modes::{Changing, Healthy, Mapping, Pathing, Tracking};
 use kp_words::{Mode, read_words};
 use std::alloc::Global;
 use std::sync::Wait;
@@ -23,9 +24,10 @@ use std::thread::Threads;
 /// Runs the program on its words, of which the first is its name. For `replay` it reads the lines
 /// of the source to its end, and writes what they print to the sink; for `changes` and `health` it
 /// does so too, and adds what each sync changed or what health ports answer; for `track` it does so
-/// on a node that keeps connections; for `live` it reads them, runs their streams beside each other,
-/// and writes the text of that run; for `gen` it writes the one line of a generated script; where
-/// the words don't fit, it writes the usage line. It reads no source for `gen` and for words that
+/// on a node that keeps connections, for `vmap` by a map of verdicts, and for `paths` it adds what may
+/// become of each packet that is explained; for `live` it reads them, runs their streams beside each
+/// other, and writes the text of that run; for `gen` it writes the one line of a generated script;
+/// where the words don't fit, it writes the usage line. It reads no source for `gen` and for words that
 /// don't fit, and hands on what is known before it asks for more. Without memory for such words it
 /// writes nothing. For `live` alone it waits by its runtime; for `live`, and for `replay` with more
 /// than one worker, it starts threads by it, and calls of streams and workers pass the gate.
@@ -139,6 +141,8 @@ fn try_alone<S: Source, K: Sink>(
             Alone::Ran(replay_in(alloc, &mut Healthy::new(alloc), source, sink))
         }
         Ok(Some(Mode::Track)) => Alone::Ran(track(alloc, source, sink)),
+        Ok(Some(Mode::Vmap)) => Alone::Ran(map(alloc, source, sink)),
+        Ok(Some(Mode::Paths)) => Alone::Ran(replay_in(alloc, &mut Pathing, source, sink)),
         Ok(None) => Alone::Ran(usage(sink)),
         Err(refused) => Alone::Ran(Status::NoMemory(refused)),
     }
@@ -150,6 +154,17 @@ fn track<S: Source, K: Sink>(alloc: Global, source: &mut S, sink: &mut K) -> Sta
         (S.input source.new) (K.output sink.new) }
 {
     match Tracking::new(alloc) {
+        Ok(mut mode) => replay_in(alloc, &mut mode, source, sink),
+        Err(refused) => ended(sink, false, Err(Stop::NoMemory(refused))),
+    }
+}
+
+/// Replays the lines of a source by a map of verdicts, which begins as that of no objects.
+fn map<S: Source, K: Sink>(alloc: Global, source: &mut S, sink: &mut K) -> Status
+    ensures { outcome.EndsIn mapping result (S.input source.old) (K.output sink.old)
+        (S.input source.new) (K.output sink.new) }
+{
+    match Mapping::new(alloc) {
         Ok(mut mode) => replay_in(alloc, &mut mode, source, sink),
         Err(refused) => ended(sink, false, Err(Stop::NoMemory(refused))),
     }

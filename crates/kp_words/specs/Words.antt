@@ -5,7 +5,7 @@ use Rattle.std.specs.Prelude.{ℕ, ◌&&◌, ◌^◌, ◌-◌, nat_le, Bool, Lis
 use Rattle.std.specs.List.{list_all}
 use Rattle.std.specs.Str.Parse.{digits_value}
 use Rattle.kp_words.specs.declared.mode.Mode.{Mode}
-use Rattle.kp_words.specs.declared.mode.Mode.TheVariants.{Replay, Changes, Health, Track, Live, Gen}
+use Rattle.kp_words.specs.declared.mode.Mode.TheVariants.{Replay, Changes, Health, Track, Vmap, Paths, Live, Gen}
 
 -- ---- Numbers
 
@@ -48,8 +48,10 @@ named_mode name =
     else (if bytes_eq name (codes "changes") then Some Changes
     else (if bytes_eq name (codes "health") then Some Health
     else (if bytes_eq name (codes "track") then Some Track
+    else (if bytes_eq name (codes "vmap") then Some Vmap
+    else (if bytes_eq name (codes "paths") then Some Paths
     else (if bytes_eq name (codes "live") then Some Live
-    else None))))
+    else None))))))
 
 -- the option with its value in one word
 abbrev pub workers_word : List ℕ → Option Mode

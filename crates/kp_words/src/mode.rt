@@ -19,6 +19,10 @@ pub enum Mode {
     Health,
     /// It answers them as a node does that keeps connections.
     Track,
+    /// It answers them by a map of verdicts in place of the tables.
+    Vmap,
+    /// It answers them, and tells all paths behind each explanation.
+    Paths,
     /// It runs the streams of its input side by side.
     Live,
     /// It generates a script from a seed, with so many Services and pods, and prints what came of
@@ -64,6 +68,8 @@ fn named_mode(name: &str) -> Option<Mode>
         "changes" => Some(Mode::Changes),
         "health" => Some(Mode::Health),
         "track" => Some(Mode::Track),
+        "vmap" => Some(Mode::Vmap),
+        "paths" => Some(Mode::Paths),
         "live" => Some(Mode::Live),
         _ => None,
     }
