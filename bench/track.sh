@@ -3,19 +3,24 @@
 # - flows to 1,000 Services of two endpoints: later ones and replies of 65,536 connections, one in four
 #   a reply; new ones of TCP, most of which aren't kept; and new ones of UDP, each of which ends
 #   before the table is full;
-# - a sync of each kind of bench/changes.sh among Services of UDP, while 65,536 connections are open;
+# - a sync of each kind of bench/changes.sh among Services of UDP, while 65,536 connections are open,
+#   and one that changes one of 1,000 endpoints of a Service of UDP;
 # - a sync that ends all of 65,536.
-# Each figure is the difference between a run and one with what comes before alone, and the least of
-# some runs by turns, seven by default.
+# What comes before is loaded in the same run, and isn't measured (parts.py). Each figure is the least
+# of some runs by turns, seven by default.
 #   bench/track.sh [RUNS [FLOWS [SERVICES PODS]]]
-# KPROXY is the command that is measured, the proved program if left out.
+#   METER=instructions bench/track.sh [RUNS [FLOWS [SERVICES PODS]]]
+# KPROXY is the command that is measured, the proved program if left out. With the second call figures
+# are instructions, of one run and fewer flows and syncs by default: other work on the machine doesn't
+# change them, and they say nothing of what waits for memory.
 set -eu
 cd "$(dirname "$0")/.."
-runs=${1:-7}
-flows=${2:-1000000}
+meter=nanoseconds runs=7 flows=1000000 syncs=5000
+[[ ${METER-} != instructions ]] || meter=counted runs=1 flows=200000 syncs=200
+runs=${1:-$runs}
+flows=${2:-$flows}
 services=${3:-10000}
 pods=${4:-60000}
-syncs=2000
 read -ra program <<<"${KPROXY:-$(checks/program kproxy)}"
 work=$(mktemp -d)
 trap 'rm -rf "$work"' EXIT
@@ -59,10 +64,15 @@ sent() { # $1: held, new or ending, $2: how many, $3: of how many Services, $4: 
     }'
 }
 
-# a cluster whose Services are of UDP, with more connections than are kept
-opened() {
-    bench/cluster.sh "$services" "$pods" 0 | awk '/DELETED/ { exit }
+# a cluster whose Services are of UDP
+of_udp() { # $1: Services, $2: Pods
+    bench/cluster.sh "$1" "$2" 0 | awk '/DELETED/ { exit }
         { sub(/"targetPort":8080/, "&,\"protocol\":\"UDP\""); print }'
+}
+
+# such a cluster, with more connections than are kept
+opened() {
+    of_udp "$services" "$pods"
     awk -v services="$services" 'BEGIN {
         for (i = 0; i < 100000; i++) {
             to = i % services + 1
@@ -73,41 +83,75 @@ opened() {
     }'
 }
 
+# changes of a kind, without the lines that they follow
+changes() { # $1: a file of a cluster, then the arguments of changes.sh
+    local cluster=$1
+    shift
+    bench/changes.sh "$@" <"$cluster" | tail -n "+$(($(wc -l <"$cluster") + 1))"
+}
+
+# what the program takes for a file behind another
+nanoseconds() { # $1: the first file, $2: the second, $3: the mode
+    bench/parts.py "$work/$1" "$work/$2" "${program[@]}" "$3" | cut -d ' ' -f 2
+}
+
+# the same in instructions
+counted() { # as nanoseconds
+    cat "$work/$1" "$work/$2" >"$work/both"
+    echo $(($(instructions "$work/both" "${program[@]}" "$3") - $(instructions "$work/$1" "${program[@]}" "$3")))
+}
+
 served 1000 >"$work/served"
-{ cat "$work/served" && sent held "$flows" 1000 TCP; } >"$work/held"
-{ cat "$work/served" && sent new "$flows" 1000 TCP; } >"$work/new"
-{ cat "$work/served" && sent ending "$flows" 1000 UDP; } >"$work/ending"
-opened >"$work/none"
+sent held "$flows" 1000 TCP >"$work/held"
+sent new "$flows" 1000 TCP >"$work/new"
+sent ending "$flows" 1000 UDP >"$work/ending"
+opened >"$work/open"
 for kind in move last beat; do
-    bench/changes.sh $kind $syncs <"$work/none" >"$work/$kind"
+    changes "$work/open" $kind $syncs >"$work/$kind"
 done
+of_udp 1 1000 >"$work/wide"
+changes "$work/wide" move $((syncs / 10)) >"$work/widened"
 { served 1 && sent new 65536 1 UDP; } >"$work/one"
-{ cat "$work/one" && sed -n '/"name":"s0-x"/s/10\.24/10.23/gp' "$work/one" && echo '{"op":"sync"}'; } >"$work/cleared"
+{ sed -n '/"name":"s0-x"/s/10\.24/10.23/gp' "$work/one" && echo '{"op":"sync"}'; } >"$work/cleared"
 
 for ((run = 0; run < runs; run++)); do
-    for file in served held new ending none move last beat one cleared; do
+    while read -r before file; do
         for mode in replay track; do
-            echo "$mode $file $(processor_seconds "$work/$file" "${program[@]}" $mode)"
+            echo "$mode $file $($meter "$before" "$file" $mode)"
         done
-    done
-done | awk -v flows="$flows" -v syncs=$syncs -v services="$services" '
+    done <<'FILES'
+served held
+served new
+served ending
+open move
+open last
+open beat
+wide widened
+one cleared
+FILES
+done | awk -v flows="$flows" -v syncs=$syncs -v services="$services" -v meter=$meter '
+    BEGIN {
+        small = meter == "counted" ? "thousand instructions" : "us"
+        large = meter == "counted" ? "million instructions" : "ms"
+    }
     !($1 " " $2 in least) || $3 < least[$1 " " $2] { least[$1 " " $2] = $3 }
-    function cost(mode, file, base) { return least[mode " " file] - least[mode " " base] }
-    function told(what, file, base, times, unit) {
-        printf "%s: %.2f %s, %.2f of a replay\n", what, cost("track", file, base) * 1000000 / times, unit,
-            cost("track", file, base) / cost("replay", file, base)
+    function told(what, file, times, each) {
+        printf "%s: %.2f %s %s, %.2f of a replay\n", what, least["track " file] / 1000 / times, small, each,
+            least["track " file] / least["replay " file]
     }
     END {
-        told("flows of 65,536 connections", "held", "served", flows, "us a flow")
-        told("new flows of TCP", "new", "served", flows, "us a flow")
-        told("new flows of UDP that end", "ending", "served", flows, "us a flow")
-        told("move among " services " Services", "move", "none", syncs, "us a sync")
-        told("last among " services " Services", "last", "none", syncs, "us a sync")
-        told("beat among " services " Services", "beat", "none", syncs, "us a sync")
-        printf "a sync that ends 65,536 connections: %.1f ms more than in a replay\n",
-            (cost("track", "cleared", "one") - cost("replay", "cleared", "one")) * 1000
+        told("flows of 65,536 connections", "held", flows, "a flow")
+        told("new flows of TCP", "new", flows, "a flow")
+        told("new flows of UDP that end", "ending", flows, "a flow")
+        told("move among " services " Services", "move", syncs, "a sync")
+        told("last among " services " Services", "last", syncs, "a sync")
+        told("beat among " services " Services", "beat", syncs, "a sync")
+        told("one of 1,000 endpoints", "widened", syncs / 10, "a sync")
+        printf "a sync that ends 65,536 connections: %.1f %s more than in a replay\n",
+            (least["track cleared"] - least["replay cleared"]) / 1000000, large
     }'
-for file in served held none; do
+cat "$work/served" "$work/held" >"$work/both"
+for file in served both open; do
     replay=$(most_memory "$work/$file" "${program[@]}" replay)
     echo "memory, $file: $((($(most_memory "$work/$file" "${program[@]}" track) - replay) / 1024)) MB more than a replay"
 done

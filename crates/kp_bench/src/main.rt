@@ -5,11 +5,13 @@
 mod draws;
 mod input;
 mod lines;
+mod mapping;
 mod storing;
 mod walking;
 
 use crate::input::{block_in, events, packet_in, table_of};
 use crate::lines::answered;
+use crate::mapping::mapped;
 use crate::storing::{changed, decided, read, stored};
 use crate::walking::{applied, looked_up, walked};
 use kp_io::{LineReader, RealSink, RealSource, Sink, Source};
@@ -30,7 +32,7 @@ fn main(rt: HostRuntime) -> io::Result<ExitCode> {
         }
         None => {
             eprintln!(rt;
-                "usage: kp_bench lines|read|store|pod|decide|walk|next|apply TIMES <INPUT"
+                "usage: kp_bench lines|read|store|pod|decide|look|walk|next|apply TIMES <INPUT"
             )?;
             Ok(ExitCode::FAILURE)
         }
@@ -60,14 +62,14 @@ fn counted_by<S: Source, K: Sink>(
     let mut reader = LineReader::new(alloc).ok()?;
     match layer.as_str() {
         "lines" => answered(alloc, times, &mut reader, source, sink),
-        "decide" | "walk" | "next" => on_packet(alloc, layer, times, &mut reader, source),
+        "decide" | "look" | "walk" | "next" => on_packet(alloc, layer, times, &mut reader, source),
         "apply" => on_batch(alloc, times, &mut reader, source),
         _ => on_objects(alloc, layer, times, &mut reader, source),
     }
 }
 
-/// The layers that a packet goes through: the objects of the block decide it, or it walks the table
-/// of the block.
+/// The layers that a packet goes through: the objects of the block decide it, or the map of them,
+/// or it walks the table of the block.
 fn on_packet<S: Source>(
     alloc: Global,
     layer: &str,
@@ -78,16 +80,27 @@ fn on_packet<S: Source>(
     let packet = packet_in(alloc, reader, source)?;
     let block = block_in(alloc, reader, source)?;
     match layer {
-        "decide" => by_objects(alloc, &packet, block.as_slice(), times),
+        "decide" | "look" => by_objects(alloc, layer, &packet, block.as_slice(), times),
         _ => by_table(alloc, layer, &packet, block.as_slice(), times),
     }
 }
 
-/// Decides a packet by the objects of a block.
-fn by_objects(alloc: Global, packet: &Packet, block: &[u8], times: u32) -> Option<u64> {
+/// The layers of a packet and the objects of a block.
+fn by_objects(
+    alloc: Global,
+    layer: &str,
+    packet: &Packet,
+    block: &[u8],
+    times: u32,
+) -> Option<u64> {
     let events = events(alloc, block)?;
-    let objects = Objects::from_events(alloc, events.as_slice()).ok()?;
-    decided(alloc, &objects, packet, times)
+    match layer {
+        "decide" => {
+            let objects = Objects::from_events(alloc, events.as_slice()).ok()?;
+            decided(alloc, &objects, packet, times)
+        }
+        _ => mapped(alloc, events.as_slice(), packet, times),
+    }
 }
 
 /// The layers of a packet and the table of a block.
