@@ -31,7 +31,7 @@ except ImportError:
 
 TOOL = str(TOP / "tools" / "json")
 SCHEMA = json.loads((TOP / "docs" / "output.schema.json").read_bytes())
-MODES = ("replay", "changes", "health", "track", "live")
+MODES = ("replay", "changes", "health", "track", "vmap", "paths", "live")
 GENERATED = 20  # of every so many random texts one is of a generated run
 MOST_BYTES = 2_000_000  # of a random text
 MOST_FAULTS = 5
@@ -176,10 +176,10 @@ def check_texts(texts):
 
 
 def worked_texts(program):
-    for folder in ("replays", "changes", "health", "track", "live"):
+    for folder in ("replays", "changes", "health", "track", "vmap", "paths", "live"):
         for path in sorted((HERE.parent / folder).glob("*.txt")):
             yield f"{folder}/{path.name}", path.read_bytes()
-    for name in ("rollout", "families", "probes", "changes", "connections", "live"):
+    for name in ("rollout", "families", "probes", "changes", "connections", "vmap", "paths", "live"):
         yield f"examples/{name}.txt", (TOP / "examples" / f"{name}.txt").read_bytes()
     for mode in MODES:
         for path in sorted((TOP / "examples").glob("*.jsonl")):
@@ -312,6 +312,19 @@ UNKNOWN = [
     b"change a/b/TCP cluster 10.0.0.1:80: open 1, now open 1\n", b"packet 1 at 1: to [12]:80\n", b"health a/b port 1: 404 local 0\n",
     b"-A X -j Y\n", b"COMMIT\n", b"*mangle\n", b"*nat\n-A X -m owner -j Y\nCOMMIT\n",
     b"*nat\npacket 1 at 1: dropped\nCOMMIT\n", b"*nat\n:X DROP [0:0]\nCOMMIT\n",
+    b"path 1 1 of 1 chance 0.5: dropped; no door decides\n",
+    b"path 1 1 of 1 chance 1.0000000000: dropped\n",
+    b"path 1 1 of 1 chance 1.0000000000: dropped; no door decides; sent to 10.0.0.1:80\n",
+    b"path 1 1 of 1 chance 1.0000000000: dropped; no door decides; sent to 10.0.0.1:80; no door decides\n",
+    b"path 1 1 of 1 chance 1.0000000000: to 10.0.0.1:80; door cluster a/b/TCP list cluster size 1 by draws place 1;"
+    b" sent to 10.0.0.1:80; door cluster a/b/TCP list cluster size 1 by draws place 1\n",
+    b"aside 1 a/b/TCP: 10.0.0.1:80 asleep\n", b"aside 1 a/b/TCP: 10.0.0.1 not ready\n",
+    b"source 1 0.0.0.0, abroad: open 1; door cluster a/b/TCP list cluster\n",
+    b"source 1 0.0.0.0, outside: open 1, masked 0; door cluster a/b/TCP list cluster\n",
+    b"source 1 0.0.0.0, outside: open 1, refused 1, masked 1; door cluster a/b/TCP list cluster\n",
+    b"source 1 0.0.0.0, outside: open 1; door cluster a/b/TCP\n",
+    b"source 1 0.0.0.0, outside: dropped, closed; door cluster a/b/TCP\n",
+    b"source 1 0.0.0.0, outside, in ranges of a: dropped, no endpoints; door cluster a/b/TCP\n",
     b"gen: events 5\n", b"final: refused: bad json\n", b"event 1: main 1 apply Secret a/b\n",
     "packet \u0663 at 1: dropped\n".encode(), b"packet 1 at 1: left alone\x00\n",
 ]  # fmt: skip
@@ -321,6 +334,9 @@ ENDS = {
     b"packet 1 at 1: \xff\n": "json: line 1 isn't UTF-8",
 }
 NO_OBJECTS = [
+    b'{"form":"source","line":1,"address":"0.0.0.0","whence":"outside","inRangesOf":[],"open":true,"masked":0,"refused":0,"door":{"kind":"cluster","namespace":"a","name":"b","port":null,"protocol":"TCP"},"list":"cluster"}\n',
+    b'{"form":"path","line":1,"path":1,"of":1,"chance":"1.0000000000","verdict":"left alone","reason":"no door","sent":{}}\n',
+    b'{"form":"aside","line":1,"servicePort":{"namespace":"a","name":"b","port":null,"protocol":"TCP"},"endpoint":{"address":"10.0.0.1","port":80},"why":"asleep"}\n',
     b"7\n", b"{}\n", b"[]\n", b"{\n", b"\n", b"[" * 100_000 + b"\n", b'{"form":"packet"}\n',
     b'{"form":"packet","line":1,"sync":1,"verdict":"upstairs"}\n',
     b'{"form":"packet","line":1.0,"sync":1,"verdict":"dropped"}\n',

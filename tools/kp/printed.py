@@ -25,6 +25,7 @@ IPV4, IPV6 = r"[0-9]{1,3}(?:\.[0-9]{1,3}){3}", "[0-9a-f]{0,4}:[0-9a-f:]{1,38}"
 HOST, ADDRESS = rf"{IPV4}|\[{IPV6}\]", f"{IPV4}|{IPV6}"
 RANGE = f"(?:{ADDRESS})/[0-9]{{1,3}}"
 PORT_KEY = f"({NAME})/({NAME})(?::({PORT_NAME}))?/({PROTOCOL})"
+ANY_PORT_KEY = f"{NAME}/{NAME}(?::{PORT_NAME})?/(?:{PROTOCOL})"
 KINDS_OF_DOORS = "cluster|external|balancer|node"
 QUOTED = r'("(?:[^"\\\x00-\x1f]|\\.)*")'
 MARK = "0x4000"
@@ -258,11 +259,15 @@ def reason_of(text):
     if text == "no door decides":
         return {"reason": NO_DOOR}
     kind, *key, shut, of, size, by, place = known(is_reason(text)).groups()
-    door = {"kind": kind, **port_key_of(*key)}
+    door = door_of(kind, *key)
     if shut:
         return {"reason": SHUT[shut], "door": door}
     chosen = {"list": of, "size": int(size), "by": by, "place": int(place)}
     return {"reason": CHOSEN, "door": door, **chosen}
+
+
+def door_of(kind, *key):
+    return {"kind": kind, **port_key_of(*key)}
 
 
 def door_text(door):
@@ -312,6 +317,112 @@ def read_trail(line):
 def trail_text(value):
     passes = ", ".join(map(" ".join, value["traversals"])) or "none"
     return f"trail {value['line']}: {passes}"
+
+
+# ---- paths
+
+CHANCE = r"[01]\.[0-9]{10}"
+SENT = "sent to "
+is_path = pattern(
+    f"path {NUMBER} {NUMBER} of {NUMBER} chance ({CHANCE}): ([^;]+); ([^;]+)"
+    f"(?:; {SENT}({HOST}):{NUMBER}; ([^;]+))?"
+)
+
+
+def read_path(line):
+    found = known(is_path(line)).groups()
+    number, path, count, chance, verdict, reason, host, port, chosen = found
+    said = {"form": "path", "line": int(number), "path": int(path), "of": int(count)}
+    said |= {"chance": chance, **verdict_of(verdict), **reason_of(reason)}
+    if host is None:
+        return said
+    if said["verdict"] not in ("rejected", "dropped"):
+        raise Unknown("what isn't refused has a second door")
+    return {**said, "sent": {"endpoint": endpoint_of(host, port), **chosen_of(chosen)}}
+
+
+def chosen_of(text):
+    """By which door, and out of which list, a packet is sent."""
+    said = dict(reason_of(text))
+    if said.pop("reason") != CHOSEN:
+        raise Unknown("a door that sends nowhere sends to an endpoint")
+    return said
+
+
+def path_text(value):
+    head = f"path {value['line']} {value['path']} of {value['of']} chance {value['chance']}"
+    said = f"{head}: {verdict_text(value)}; {reason_text(value)}"
+    if sent := value.get("sent"):
+        said += f"; {SENT}{endpoint_text(sent['endpoint'])}"
+        said += f"; {reason_text({**sent, 'reason': CHOSEN})}"
+    return said
+
+
+WHY = "not ready|other node|terminating|other zone|not admitted|kept elsewhere"
+is_aside = pattern(f"aside {NUMBER} {PORT_KEY}: ({HOST}):{NUMBER} ({WHY})")
+
+
+def read_aside(line):
+    number, *key, host, port, why = known(is_aside(line)).groups()
+    said = {"form": "aside", "line": int(number), "servicePort": port_key_of(*key)}
+    return {**said, "endpoint": endpoint_of(host, port), "why": why}
+
+
+def aside_text(value):
+    head = f"aside {value['line']} {port_key_text(value['servicePort'])}"
+    return f"{head}: {endpoint_text(value['endpoint'])} {value['why']}"
+
+
+WHENCE = "outside|cluster|node|cluster and node"
+CAUSE = "no endpoints|not admitted|no local endpoints"
+IN_RANGES = ", in ranges of "
+COUNTED = ("open", "masked", "refused")
+POSITIVE = "([1-9][0-9]{0,19})"
+is_source = pattern(
+    f"source {NUMBER} ({ADDRESS}), ({WHENCE})((?:{IN_RANGES}{ANY_PORT_KEY})*): (.+)"
+)
+is_served = pattern(
+    f"open {NUMBER}(?:, masked {POSITIVE})?(?:, refused {POSITIVE})?; "
+    f"door ({KINDS_OF_DOORS}) {PORT_KEY} list (cluster|local)"
+)
+is_turned_away = pattern(
+    f"(rejected|dropped|left alone), ({CAUSE}); door ({KINDS_OF_DOORS}) {PORT_KEY}"
+)
+
+
+def read_source(line):
+    number, address, whence, ranges, rest = known(is_source(line)).groups()
+    said = {"form": "source", "line": int(number), "address": address, "whence": whence}
+    ports = ranges.split(IN_RANGES)[1:]
+    return {**said, "inRangesOf": list(map(port_key_in, ports)), **served_of(rest)}
+
+
+def port_key_in(text):
+    return port_key_of(*known(is_port_key(text)).groups())
+
+
+def served_of(text):
+    """What a kind of source gets at its door."""
+    if found := is_turned_away(text):
+        verdict, cause, kind, *key = found.groups()
+        return {"verdict": verdict, "cause": cause, "door": door_of(kind, *key)}
+    *counts, kind, namespace, name, port, protocol, of = known(is_served(text)).groups()
+    said = {it: int(count or 0) for it, count in zip(COUNTED, counts)}
+    return {**said, "door": door_of(kind, namespace, name, port, protocol), "list": of}
+
+
+def served_text(value):
+    door = door_text(value["door"])
+    if "verdict" in value:
+        return f"{value['verdict']}, {value['cause']}; {door}"
+    counts = [f"{it} {value[it]}" for it in COUNTED if it == "open" or value[it]]
+    return f"{', '.join(counts)}; {door} list {value['list']}"
+
+
+def source_text(value):
+    ports = "".join(IN_RANGES + port_key_text(it) for it in value["inRangesOf"])
+    head = f"source {value['line']} {value['address']}, {value['whence']}{ports}"
+    return f"{head}: {served_text(value)}"
 
 
 # ---- syncs and records
@@ -576,7 +687,7 @@ def both_text(write, value):
 
 def beside_of(text):
     *key, kind = known(is_beside(text)).groups()
-    return {"kind": kind, **port_key_of(*key)}
+    return door_of(kind, *key)
 
 
 class Parts:
@@ -793,6 +904,9 @@ READERS = {
     "packet": read_answer,
     "explain": read_answer,
     "trail": read_trail,
+    "path": read_path,
+    "aside": read_aside,
+    "source": read_source,
     "sync": read_sync,
     "line": read_refused,
     "slice": read_slice,
@@ -809,6 +923,9 @@ TEXTS = {
     "packet": packet_text,
     "explain": explain_text,
     "trail": trail_text,
+    "path": path_text,
+    "aside": aside_text,
+    "source": source_text,
     "sync": lambda value: f"sync {value['sync']}: {counts_text(value)}",
     "syncOfLine": lambda value: f"sync {value['line']}: record {value['record']}",
     "refused": lambda value: f"line {value['line']}: refused: {refusal_text(value)}",

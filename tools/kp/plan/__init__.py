@@ -1,0 +1,1 @@
+"""What a change of a cluster does to those who connect."""

@@ -1,0 +1,1 @@
+"""The parts of tools/why, and of the tools beside it."""
