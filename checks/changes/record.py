@@ -110,9 +110,9 @@ class Record:
                 continue
             ports = [
                 (it.get("name", ""), it.get("protocol", "TCP"), it.get("port"))
-                for it in item.get("ports", [])
+                for it in item.get("ports") or []
             ]
-            for it in item.get("endpoints", []):
+            for it in item.get("endpoints") or []:
                 address, said = it["addresses"][0], it.get("conditions", {})
                 ready = said.get("ready", True)
                 leaving = said.get("serving", ready) and said.get("terminating", False)

@@ -79,6 +79,14 @@ def after(word):
     return change
 
 
+def replays(run, words, data, pieces):
+    """Answers by thresholds where a remainder is asked for, though without trails."""
+    if words[0] != "vmap":
+        return run(words, data, pieces)
+    status, text = run(["replay"], data, pieces)
+    return status, re.sub(r"(?m)^(trail \d+): .*$", r"\1: none", text)
+
+
 # ---- how it ends
 
 
@@ -126,6 +134,33 @@ PROGRAMS = {
     ),
     "answers a later packet anew": (printed(r"(?<=: )later (?=to )", "", "track"), "track"),
     "keeps no connection": (printed(f"^{PACKET}to .*", r"\g<0> untracked", "track"), "track"),
+    "maps as a replay walks": (replays, "vmap"),
+    "maps to the next place": (
+        printed(r"(?<= by draws place )([1-9])$", r"\g<1>1", "vmap"),
+        "vmap",
+    ),
+    "maps to another list": (printed("list cluster size", "list local size", "vmap"), "vmap"),
+    "maps what is left alone": (
+        printed(f"^({PACKET})left alone$", r"\1dropped", "vmap"),
+        "vmap",
+    ),
+    "says a trail where it maps": (printed(r"(?<=^trail )(\d+): none", r"\1: OUTPUT", "vmap"), "vmap"),
+    "explains another endpoint than it maps to": (
+        printed(rf"^(explain .*\n{PACKET}to ).*$", r"\g<1>10.0.0.99:1", "vmap"),
+        "verdict",
+    ),
+    "loses the last path": (printed(r"^path .*\n(?!path )", "", "paths"), "paths"),
+    "gives a path another chance": (printed(r"(?<=^path )(.* chance [01]\.\d{9})\d", r"\g<1>7", "paths"), "paths"),
+    "has paths that lead elsewhere": (
+        printed(r"(?<=^path )(\d+ 1 of 1 .*: to )\S+", r"\g<1>10.0.0.99:1", "paths"),
+        "paths",
+    ),
+    "has an endpoint beside the paths twice": (printed(r"^aside .*\n", r"\g<0>\g<0>", "paths"), "paths"),
+    "has a source twice": (printed(r"^source .*\n", r"\g<0>\g<0>", "paths"), "paths"),
+    "has sources before the paths": (
+        printed(r"^((?:path .*\n)+)((?:aside .*\n)*)((?:source .*\n)+)", r"\3\1\2", "paths"),
+        "paths",
+    ),
     "takes a stream's events in another order": (
         printed(r"^(event \d+: )(.*\n)(event \d+: )(.*\n)", r"\1\4\3\2", "live"),
         "live",

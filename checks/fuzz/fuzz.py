@@ -33,7 +33,8 @@ import re
 import sys
 import time
 from functools import cached_property, lru_cache
-from itertools import accumulate, islice
+from ipaddress import ip_address
+from itertools import accumulate, islice, zip_longest
 from multiprocessing import Pool
 from pathlib import Path
 
@@ -47,12 +48,15 @@ from scripts import MOST_BYTES, random_script, to_door
 from walk import Tables, Unknown, Walk
 
 MOST_LEVELS = 127
+MOST_DRAW = 2**31 - 1  # which stands for one that is missing
 FEWEST = 512  # lines that workers share
 MOST_FAULTS = 5
 JUDGED = 0.1  # of the live runs are judged, which takes the most time
 WALKED = 10  # packets by the last tables
 IN_MODES = 0.25  # of the scripts run in another mode as well
 TRACKED = 0.15  # of them keep connections, too
+MAPPED = 0.15  # of them pick endpoints by a remainder, too
+PATHED = 0.15  # of them tell all paths, too
 # how the lines begin that a mode adds, and the form of what it adds at the end
 RULES_AT_END = r"(?:\*filter\n:KUBE-NODEPORTS .*\n(?:-A .*\n)+COMMIT\n)?"
 MODES = {"changes": ("change", ""), "health": ("health", RULES_AT_END)}
@@ -65,6 +69,10 @@ TABLES = [b'{"op":"show","what":"nat"}', b'{"op":"show","what":"filter"}']
 TABLES6 = [b'{"op":"show","what":"nat6"}', b'{"op":"show","what":"filter6"}']
 REFUSED = re.compile(r"^line (\d+): refused: (.*)\n", re.M)
 SYNCED = re.compile(r"^sync \d+: .*\n", re.M)
+CHOSEN = re.compile(r"(explain (\d+) at \d+: to ).*; (door \S+ \S+ list \S+ size (\d+)) by (\w+) place (\d+)")
+REPLIED = re.compile(r"((?:packet|explain) \d+ at \d+): (to|rejected|dropped|left alone)\b")
+BEHIND = re.compile(r"^(path|aside|source) (\d+) (.*)\n", re.M)
+PLACE = re.compile(r"(\d+) of (\d+) chance ([01])\.(\d{10}): ([^;]+; [^;]+)(?:; sent to (\S+); door .*)?")
 TO_UDP = re.compile(r"^-A .* -p udp .*-j DNAT --to-destination \[?(.+?)\]?:(\d+)$", re.M)
 
 TOO_LONG = f"longer than {MOST_BYTES} bytes"
@@ -319,6 +327,10 @@ def check_script(program, data, rng):
         check_mode(program, data, text, rng.choice(list(MODES)))
     if rng.random() < TRACKED:
         check_track(program, data, lines, marked)
+    if rng.random() < MAPPED:
+        check_vmap(program, data, lines, refused, text)
+    if rng.random() < PATHED:
+        check_paths(program, data, text)
     tables, tables6 = check_marked(program, marked, printed, rng)
     if program.echo:
         compare("echo", program.echoed(tables), tables)
@@ -348,6 +360,76 @@ def check_track(program, data, lines, marked):
     wanted = tracked(lambda it: program.run(["replay"], it), lines, lambda *_: iter(standing))
     text = check_status("track", program.run(["track"], data))
     compare("track", text, "".join(it + "\n" for it in wanted[1]))
+
+
+def check_vmap(program, data, lines, refused, replayed):
+    """Packets and explanations are answered by a remainder, and all else as in a replay."""
+    text = check_status("vmap", program.run(["vmap"], data))
+    check_answers(lines, refused, text)
+    pairs = list(zip_longest(text.split("\n"), replayed.split("\n"), fillvalue=""))
+    for line, other in pairs:
+        found, theirs = REPLIED.match(line), REPLIED.match(other)
+        if other.startswith("trail "):
+            other = other.partition(":")[0] + ": none"
+        if not found or not theirs:
+            demand(line == other, f"vmap: {line!r}, and not {other!r}")
+            continue
+        demand(found[1] == theirs[1], f"vmap: {line!r}, and a replay says {other!r}")
+        # what is refused may be so at the endpoint that was picked, and what no door takes is known
+        known = {found[2], theirs[2]}
+        demand(len(known) == 1 or "left alone" not in known, f"vmap: {line!r}, and a replay says {other!r}")
+        check_chosen(lines, line, other)
+
+
+def check_chosen(lines, line, other):
+    """The door and the list of an explanation are those of a replay, and the place is by the draw."""
+    ours, theirs = CHOSEN.match(line), CHOSEN.match(other)
+    demand(not ours or not theirs or ours[3] == theirs[3], f"vmap: {line!r}, and a replay says {other!r}")
+    if ours and ours[5] == "draws":
+        value = asked_by(lines[int(ours[2]) - 1]).value
+        draws, seed = value.get("draws"), value.get("seed")
+        if draws is not None or seed is None:
+            place = (int(draws[0]) if draws else MOST_DRAW) % int(ours[4]) + 1
+            demand(int(ours[6]) == place, f"vmap: {line!r}, and the draw leaves place {place}")
+
+
+def check_paths(program, data, replayed):
+    """Behind each explanation stand its paths, other endpoints and sources, and all else is a replay's."""
+    text = check_status("paths", program.run(["paths"], data))
+    compare("paths", BEHIND.sub("", text), replayed)
+    explained, behind = None, []
+    for line in [*text.split("\n"), ""]:
+        found = BEHIND.match(line + "\n")
+        if found:
+            behind.append(found.groups())
+            continue
+        if explained or behind:
+            check_behind(explained, behind)
+        explained, behind = re.match(r"explain (\d+) at \d+: (.*)", line), []
+
+
+def check_behind(explained, behind):
+    """The lines behind an explanation are its own, in order. It is one of the paths, whose chances add up
+    to one. No endpoint stands twice, and no kind of source."""
+    demand(explained, f"paths: what follows isn't behind an explanation: {behind[:1]}")
+    kinds = [kind for kind, *_ in behind]
+    demand(kinds == sorted(kinds, key=["path", "aside", "source"].index), f"paths: in order {kinds}")
+    demand({it for _, it, _ in behind} == {explained[1]}, f"paths: {explained[0]!r} has lines of others, or none")
+    said = {it: [own for kind, _, own in behind if kind == it] for it in ("path", "aside", "source")}
+    paths = [PLACE.fullmatch(it) for it in said["path"]]
+    demand(all(paths), f"paths: {explained[0]!r} has {said['path']}")
+    places = [(int(it[1]), int(it[2])) for it in paths]
+    demand(places == [(it + 1, len(paths)) for it in range(len(paths))], f"paths: places {places}")
+    demand(sum(int(it[3] + it[4]) for it in paths) == 10**10, f"paths: the chances of {explained[0]!r}")
+    demand(explained[2] in [it[5] for it in paths], f"paths: {explained[0]!r} isn't among {said['path']}")
+    reached = [it[6] or it[5].split()[1] for it in paths if it[6] or it[5].startswith("to ")]
+    others = [it.split(": ")[1].split()[0] for it in said["aside"]]
+    ends = reached + others
+    demand(len(ends) == len(set(ends)), f"paths: {explained[0]!r} has an endpoint twice: {ends}")
+    heads = [it.split(", ", 1) for it in said["source"]]
+    addresses, sources = [ip_address(it) for it, _ in heads], [it.split(": ")[0] for _, it in heads]
+    demand(addresses == sorted(set(addresses)), f"paths: sources {addresses}")
+    demand(len(sources) == len(set(sources)), f"paths: sources {sources}")
 
 
 def check_marked(program, marked, wanted, rng):

@@ -34,6 +34,10 @@ ROWS = [
     ("changes", "changes/refused_syncs_print_no_change.jsonl"),
     ("health", "health/the_last_record_counts.jsonl"),
     ("track", "track/udp_is_sent_anew_where_its_endpoint_went.jsonl"),
+    ("vmap", "vmap/a_refused_sync_leaves_the_map_as_it_was.jsonl"),
+    ("vmap", "vmap/affinity_finds_an_endpoint_whatever_is_drawn.jsonl"),
+    ("paths", "paths/ranges_of_two_load_balancers_at_one_address.jsonl"),
+    ("paths", "paths/affinity_keeps_a_source_until_its_timeout.jsonl"),
     ("live", "live/a_clash_at_the_end.jsonl"),
     ("live", "live/each_sync_has_its_record.jsonl"),
 ]

@@ -5,16 +5,19 @@ has two points. Of a live run the worked text is taken, since each run may be an
     shown.py PROGRAM
 """
 
+import os
 import re
 import subprocess
 import sys
+import tempfile
 from pathlib import Path
 
 TOP = Path(__file__).resolve().parent.parent.parent
-PAGES = {"README.md": 3, "docs/MODES.md": 7, "docs/FORMAT.md": 1}
+PAGES = {"README.md": 5, "docs/MODES.md": 10, "docs/FORMAT.md": 1}
 COMMAND = re.compile(r"(?:\$ )?\./kproxy (\w+[\w ]*?)(?: < (examples/\S+))?")
 CLUSTER = "tools/cluster n1 > state.jsonl"
 QUESTION = re.compile("echo '(.*)' > question.jsonl")
+WHY = "$ tools/why state.jsonl "
 
 
 def blocks(page):
@@ -34,17 +37,32 @@ def output_of(words, data):
     return ran.stdout.decode(errors="surrogateescape").split("\n")
 
 
+def state_of_cluster():
+    """What tools/cluster writes for the recorded cluster."""
+    files = sorted(map(str, (TOP / "examples/cluster").glob("*.json")))
+    return "\n".join(output_of([TOP / "tools/cluster", "n1", *files], b""))
+
+
 def output_of_cluster(program, question):
     """What the program writes for the recorded cluster and a question."""
-    files = sorted(map(str, (TOP / "examples/cluster").glob("*.json")))
-    state = "\n".join(output_of([TOP / "tools/cluster", "n1", *files], b""))
-    return output_of([program, "replay"], f"{state}{question}\n".encode())
+    return output_of([program, "replay"], f"{state_of_cluster()}{question}\n".encode())
+
+
+def output_of_why(program, words):
+    """What tools/why writes for the recorded cluster."""
+    os.environ["KPROXY"] = program
+    with tempfile.NamedTemporaryFile() as file:
+        file.write(state_of_cluster().encode())
+        file.flush()
+        return output_of([TOP / "tools/why", file.name, *words], b"")
 
 
 def output_after(program, block):
     """What the command that begins a block writes, and the lines behind it in the block; or None."""
     if block[0] == CLUSTER:
         return output_of_cluster(program, QUESTION.fullmatch(block[1])[1]), []
+    if block[0].startswith(WHY):
+        return output_of_why(program, block[0][len(WHY) :].split()), block[1:]
     command = COMMAND.fullmatch(block[0])
     if not command or "--" in block[0]:
         return None
