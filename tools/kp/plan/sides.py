@@ -6,7 +6,7 @@ import subprocess
 from dataclasses import dataclass, field
 
 from .. import objects
-from ..objects import Key, member
+from ..objects import Key, member, members, text
 from ..state import Fault, State, some
 
 LIBRARY = os.path.join(os.path.dirname(os.path.dirname(os.path.dirname(__file__))), "cluster.jq")
@@ -42,7 +42,7 @@ def sides_of(before, after):
     """The sides that two files have, with what makes slices where these alone lag behind."""
     sides = Sides(before, after)
     if before.setting != after.setting:
-        sides.notes.append("the settings differ: each side is answered by its own")
+        sides.notes.append("the settings differ: doors that these alone change aren't told")
     return with_controller(sides)
 
 
@@ -53,6 +53,7 @@ def with_controller(sides):
     lags = any(makes_slices(sides, it) for it in keys)
     if not lags or any(it.kind == "EndpointSlice" for it in keys):
         return sides
+    need_pods(sides.before, keys=[it for it in keys if it.kind == "Service"])
     if member(sides.before.setting, "controller") is False:
         sides.as_written = sides.before
         sides.notes.append("on both sides endpoints are those that the controller makes of Pods")
@@ -113,15 +114,48 @@ def after_drain(before, node):
     """The state after a node is drained: what of its Pods stays is told."""
     if node not in before.node_names():
         raise Fault(f"there is no Node {node}; there are: {some(before.node_names())}")
+    need_pods(before, node)
     pods = [it for it in before.pods.values() if it.node == node and not it.is_finished]
     gone = [it for it in pods if it.owner not in STAYING]
     sides = with_controller(Sides(before, before.changed(gone=[it.key for it in gone])))
     count, stay = len(gone), len(pods) - len(gone)
     sides.notes.append(
-        f"{count} Pod{'' if count == 1 else 's'} of {node} go, and aren't put elsewhere here; "
-        f"{stay} of DaemonSets and static ones stay"
+        f"{count} Pod{' of ' if count == 1 else 's of '}{node} {'goes' if count == 1 else 'go'}, and "
+        f"{'isn' if count == 1 else 'aren'}'t put elsewhere here; "
+        f"{stay} of DaemonSets and static ones {'stays' if stay == 1 else 'stay'}"
     )
     return sides
+
+
+def need_pods(state, node=None, keys=None):
+    """Raises where ready endpoints have Pods that aren't in the state: what becomes of them with
+    these can't be told then. Of a node alone or of all, and of some Services or of all."""
+    lacking, where = {}, f" on {node}" if node else ""
+    for item in state.slices.values():
+        space = text(item, "metadata", "namespace") or "default"
+        owner = Key("Service", space, objects.label(item, objects.OF_SERVICE))
+        for entry in members(item, "endpoints") if keys is None or owner in keys else ():
+            if node in (None, text(entry, "nodeName")) and is_lacking(state, space, entry):
+                lacking.setdefault(owner, set()).update(map(str, members(entry, "addresses")[:1]))
+    if not lacking:
+        return
+    told = [
+        f"{len(it)} endpoint{'' if len(it) == 1 else 's'} of {owner.namespace}/{owner.name}"
+        for owner, it in lacking.items()
+    ]
+    is_one = sum(map(len, lacking.values())) == 1
+    raise Fault(
+        f"{some(told, 3)}{where} {'has a Pod that is' if is_one else 'have Pods that are'}n't in the "
+        "state: write it anew with all Pods, of files with what kubectl get pods -A -o json prints"
+    )
+
+
+def is_lacking(state, space, entry):
+    """Whether an endpoint is ready, and its Pod isn't in the state."""
+    ref = member(entry, "targetRef")
+    if text(ref, "kind") != "Pod" or member(entry, "conditions", "ready") is False:
+        return False
+    return Key("Pod", text(ref, "namespace") or space, text(ref, "name")) not in state.pods
 
 
 # ---- what a change touches

@@ -1,11 +1,12 @@
 """What a change does, as text and as objects."""
 
 from ..objects import address_of
-from ..printed import endpoint_text
+from ..printed import VALUES, both_text, change_text, endpoint_text
 from ..state import encode, some
 from ..why.places import CALLED, host_text
 from ..why.said import Words, key_of, kind_text, service_text
 from ..why.shown import BOLD, RED, coloured, laid_out
+from .compared import ends_of
 
 LOSS = "LOSS"
 
@@ -21,15 +22,16 @@ def door_text(door):
 CAUSES = {"no endpoints": "no endpoint", "no local endpoints": "no endpoint on {}"}
 
 
-def got_text(node, got, is_masking_told):
+def got_text(node, got, is_masking_told, is_service_told):
     """What a kind of source gets on one side."""
     if got is None:
         return "no Service there"
+    of = f" of {service_text(got['door'])}" if is_service_told else ""
     if "verdict" in got:
         cause = CAUSES.get(got["cause"], got["cause"]).format(node)
-        return f"{got['verdict']}: {cause}"
+        return f"{got['verdict']}: {cause}{of}"
     count, masked = got["open"], got["masked"]
-    parts = [f"{count} endpoint{'' if count == 1 else 's'}"]
+    parts = [f"{count} endpoint{'' if count == 1 else 's'}{of}"]
     if is_masking_told:
         parts.append("masked" if masked == count else f"{masked or 'not'} masked")
     parts += [f"{got['refused']} refused"] if got["refused"] else []
@@ -37,12 +39,43 @@ def got_text(node, got, is_masking_told):
 
 
 def said_text(node, row):
-    """What it got, and gets now; the client's address is told of where that alone differs."""
+    """What it got, and gets now. The client's address, and another Service, are told of where these
+    differ; and where nothing of this does, how many endpoints are others."""
     both = row.before, row.after
     is_open = all(it and "open" in it for it in both)
-    differs = is_open and row.before["masked"] != row.after["masked"]
-    before, after = (got_text(node, it, differs) for it in both)
-    return f"{before}, not all the same" if before == after else f"{before}, now {after}"
+    is_masking = is_open and row.before["masked"] != row.after["masked"]
+    is_service = all(both) and service_text(row.before["door"]) != service_text(row.after["door"])
+    before, after = (got_text(node, it, is_masking, is_service) for it in both)
+    if before != after:
+        return f"{before}, now {after}"
+    came, went = map(len, ends_of(row.change, row.source["whence"]))
+    if (came, went) == (0, 0):
+        return f"{before}: {other_door_text(row)}"
+    if came != went:
+        return f"{before}: {came} came, {went} went"
+    others = "another" if came == 1 else "others"
+    if is_open and came == row.after["open"]:
+        return f"{before}, now {others}"
+    return f"{before}, now {came} of them {others}"
+
+
+def other_door_text(row):
+    """How what answers differs, where its counts don't."""
+    for name, words in (("list", "of the list {}"), ("cause", "{}")):
+        both = [it.get(name) for it in (row.before, row.after)]
+        if both[0] != both[1]:
+            return ", now ".join(words.format(it) for it in both)
+    return ", now ".join(CALLED[it["door"]["kind"]] for it in (row.before, row.after))
+
+
+def told_of(change):
+    """What `changes` says of a door that differs, without the endpoints."""
+    bare = {**change, "new": [], "gone": []}
+    if "inside" in change:
+        bare["inside"] = {**change["inside"], "new": [], "gone": []}
+    states, *parts = change_text(bare).partition(": ")[2].split("; ")
+    is_same = change["before"] == change["now"]
+    return "; ".join(parts if is_same and parts else [states, *parts])
 
 
 def ends_text(state, change):
@@ -62,14 +95,8 @@ def end_text(state, door, endpoint):
 def whom_text(row, node):
     """Of which kind of source a row is."""
     version = 6 if row.change["door"]["family"] == "IPv6" else 4
-    whom = kind_text(row.side, Words(node, "them"), row.source, version)
-    return whom.replace(f" ({outside(row, version)})", "")
-
-
-def outside(row, version):
-    """What a source in ranges is besides, which says little of one from outside."""
     bare = {**row.source, "inRangesOf": []}
-    return kind_text(row.side, Words("", ""), bare, version) if bare["whence"] == "outside" else ""
+    return row.ranges or kind_text(row.state, Words(node, "them"), bare, version)
 
 
 def text_of(sides, rows):
@@ -80,9 +107,18 @@ def text_of(sides, rows):
     for at, (head, mine) in enumerate(by_door.items()):
         yield from [""] if at else []
         yield coloured(head, BOLD)
-        for line in laid_out(list(grouped(mine))):
+        for line in laid_out([*grouped(mine), *without_sources(mine)]):
             yield coloured(line, RED) if line.endswith(LOSS) else line
         yield from ends_lines(sides, mine)
+
+
+def without_sources(rows):
+    """What is said of the door, on nodes where no source gets something else."""
+    found = {}
+    for it in rows:
+        if it.source is None:
+            found.setdefault(told_of(it.change), []).append(it.node)
+    return [["  " + some(nodes, 3), text] for text, nodes in found.items()]
 
 
 def ends_lines(sides, rows):
@@ -97,16 +133,20 @@ def ends_lines(sides, rows):
 
 
 def ends_of_row(sides, row):
-    """Endpoints that come are those of the side after, and those that go of the one before."""
+    """Endpoints that come are those of the side after, and those that go of the one before. No
+    source tells of affinity."""
     yield from ends_text(sides.after, {**row.change, "gone": []})
     yield from ends_text(sides.before, {**row.change, "new": []})
+    if row.source is not None and "before" in row.change.get("affinity", ()):
+        yield both_text(VALUES["affinity"][1], row.change["affinity"])
 
 
 def grouped(rows):
     """Rows as cells: sources that get the same together, and nodes that answer alike."""
     by_node = {}
     for it in rows:
-        by_node.setdefault(it.node, []).append(it)
+        if it.source is not None:
+            by_node.setdefault(it.node, []).append(it)
     groups = {}
     for node, mine in by_node.items():
         groups.setdefault(tuple(merged(mine, "the node")), []).append(node)
@@ -127,9 +167,11 @@ def merged(rows, node):
     return [(called[it], *it) for it in found]
 
 
+SAID = "door", "new", "gone", "policy", "affinity", "sources", "inside"
+
+
 def object_of(row):
     """A row as JSON."""
-    source = {name: row.source[name] for name in ("address", "whence", "inRangesOf")}
-    change = {name: row.change[name] for name in ("door", "new", "gone")}
+    change = {name: row.change[name] for name in SAID if name in row.change}
     got = {"before": row.before, "after": row.after, "isLoss": row.is_loss()}
-    return encode({"node": row.node, **change, "source": source, **got})
+    return encode({"node": row.node, **change, "source": row.source, **got})
