@@ -215,6 +215,7 @@ def note_of_read($as_written):
     elif .kind == "Service" then
         ["service", key, (.spec | objects // {}
             | {type, addresses: cluster_addresses, selects: ((.selector | length > 0)? // false)})]
+    elif .kind == "Pod" then ["pod"]
     else empty end;
 
 # the same of an object that isn't read
@@ -385,6 +386,11 @@ def said_of_others:
             else "of kind \(.[0] | shown) (\(.[1] | shown))" end)),
     (notes_of("event") | group_by(.[1])[] | "left out: \(length) events of type \(.[0][1] | shown)");
 
+def everything: "kubectl get nodes,services,endpointslices,pods -A -o json";
+
+# whether a note of one of these kinds is there
+def came(kinds): any(.[]; .[0] | IN(kinds));
+
 # The setting of the node as a line, and sentences, or why there is none. The input is the list of notes, $given the arguments.
 def setting($node; $given):
     (reduce notes_of("node")[] as $it ({}; .[$it[1] | tostring] = $it[2:])) as $nodes
@@ -399,7 +405,9 @@ def setting($node; $given):
     | ($addresses + $ranges + (notes_of("service") | map(.[2].addresses[]))
         | any(contains(":"))) as $dual
     | if $nodes | has($node) | not then
-        "F" + (if $nodes == {} then "no Node came, so \($node) isn't there"
+        "F" + (if came("node", "service", "slice", "pod", "proxy", "list") | not then
+                "nothing of a cluster came: give what \(everything) prints"
+            elif $nodes == {} then "no Node came, so \($node) isn't there"
             else "there is no Node \($node); there are: \($nodes | keys | some_of)" end)
       else
         "L" + ({op: "config", node: $node, nodeAddresses: $addresses}
@@ -415,6 +423,8 @@ def setting($node; $given):
             said_of_mode($proxy),
             (select(notes_of("slice") == []) | "no EndpointSlices came: endpoints come from Pods"),
             ($services | said_of_services($sliced; $controller)),
+            (select($services != {} and (came("pod") | not))
+                | "no Pods came: tools/plan and tools/why name none; kubectl get pods -A -o json"),
             said_of_changes,
             said_of_others)
       end;

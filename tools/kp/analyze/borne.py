@@ -1,5 +1,7 @@
 """Findings that the program's answers bear out."""
 
+import shlex
+
 from ..objects import address_of
 from ..why.asked import Asker, Question
 from .findings import findings_on
@@ -28,11 +30,11 @@ def borne_out(state, nodes):
             yield finding, consequence, answer
 
 
-def text_of(finding, consequence, answer):
-    """A finding as lines."""
+def text_of(finding, consequence, answer, path="STATE"):
+    """A finding as lines; `path` is that of the state."""
     yield f"{finding.code}: {finding.key}: {finding.field}: {finding.says}"
     yield f"    so  {consequence}"
-    yield f"    ask {asked_text(answer)}"
+    yield f"    ask tools/why {shlex.quote(path)} {asked_text(answer)}"
     yield f"    do  {finding.mends}"
 
 

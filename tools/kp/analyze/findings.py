@@ -8,6 +8,7 @@ from .. import objects
 from ..objects import Key, address_of, member, members, text
 from ..state import some
 from ..why.asked import timeout_of
+from ..why.order import either
 from ..why.places import CALLED, near_names, port_text, ports_of, targets_at
 from ..why.said import VERDICTS, words_for
 
@@ -249,10 +250,13 @@ def on_clashes(state):
 
 
 def one_answers(state, answers):
+    """The consequence: on a node either may answer, or the one that has endpoints does."""
     for it in answers:
-        door = it.paths[0].get("door")
-        if door:
-            return f"Service {door['namespace']}/{door['name']} answers there", it
+        if it.door:
+            name = f"{it.door['namespace']}/{it.door['name']}"
+            if either(state, it):
+                return f"either may answer, by node and by sync; here {name}, by name", it
+            return f"Service {name} answers there", it
     return "", None
 
 

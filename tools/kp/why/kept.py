@@ -12,16 +12,16 @@ class Kept:
     def __init__(self, state):
         self._state = state
         setting = state.setting
-        self._is_all = member(setting, "controller") is not False or "maxEvents" in setting
+        self.is_all = member(setting, "controller") is not False or "maxEvents" in setting
         self._at = {}  # Services by address, which is None at a node port, port and protocol
         self._known = {}
-        for key, service in () if self._is_all else state.services.items():
+        for key, service in () if self.is_all else state.services.items():
             for place in places_of(service):
                 self._at.setdefault(place, []).append(key)
 
     def held(self, node, asked):
         """The objects for questions at a node: at addresses, ports and protocols."""
-        if self._is_all:
+        if self.is_all:
             return self._state.held.values()
         asked = frozenset(asked)
         if asked not in self._known:
@@ -30,11 +30,18 @@ class Kept:
         return [*([own] if own else []), *self._known[asked]]
 
     def _held_for(self, asked):
+        return self.of_services(self.services_for(asked))
+
+    def services_for(self, asked):
+        """The Services that may decide at these places."""
         first = {it for place in asked for it in self._that_may_have(*place)}
         behind = {place for it in first for place in ends_of(self._state, it)}
-        keys = first | {it for place in behind for it in self._that_may_have(*place)}
+        return first | {it for place in behind for it in self._that_may_have(*place)}
+
+    def of_services(self, keys):
+        """These Services, as far as they are there, and their slices."""
         slices = [it for key in keys for it in self._state.slice_keys_of(key)]
-        found = [self._state.held[it] for it in (*keys, *slices)]
+        found = [self._state.held[it] for it in (*keys, *slices) if it in self._state.held]
         return sorted(found, key=lambda it: it.number)
 
     def _that_may_have(self, address, number, protocol):

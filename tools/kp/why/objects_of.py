@@ -1,13 +1,21 @@
 """Answers as objects, as docs/why.schema.json has them."""
 
 import json
+import re
 
 from ..objects import address_of, text
 from . import near
 from .asked import timeout_of
+from .order import either
 from .said import key_of
 
-encode = json.JSONEncoder(separators=(",", ":")).encode
+whole = json.JSONEncoder(separators=(",", ":")).encode
+chances = re.compile('"chance":"([01][.][0-9]{10})"')
+
+
+def encode(value):
+    """A value as JSON, with each chance as a number of ten decimals."""
+    return chances.sub(r'"chance":\1', whole(value))
 
 
 def object_of(state, source, answer):
@@ -23,6 +31,7 @@ def object_of(state, source, answer):
             "sources": [bare(it) for it in answer.sources],
             "affinity": timeout_of(state.services.get(key_of(door))) if door else None,
             "health": answer.health and bare(answer.health),
+            "either": [named(it) for it in either(state, answer)],
             "near": near.near_misses(state, answer),
             "chains": answer.trails,
         }
@@ -63,4 +72,8 @@ def to_of(question):
 def without_places(state, key):
     """A Service that has no place at which it could be asked."""
     told = near.without_places(state, key)
-    return encode({"service": {"namespace": key.namespace, "name": key.name}, "near": [told]})
+    return encode({"service": named(key), "near": [told]})
+
+
+def named(key):
+    return {"namespace": key.namespace, "name": key.name}

@@ -168,8 +168,23 @@ def targets_of_service(state, words, namespace, name, port, suffix):
     asked = [it for it in found if suffix is None or it.kind == KINDS[suffix]]
     if suffix and not asked and found:
         there = some(dict.fromkeys(CALLED[it.kind] for it in found))
+        if KINDS[suffix] == "balancer" and (lack := lack_of_balancer(service)):
+            raise Fault(f"Service {name}, load balancer: {lack}; it has {there}")
         raise Fault(f"Service {name} has no {CALLED[KINDS[suffix]]}: it has {there}")
     return asked
+
+
+def lack_of_balancer(service):
+    """Why the load balancer of a Service has no address that is a door; "" where it has one, or
+    where there is none."""
+    if text(service, "spec", "type") != "LoadBalancer" or objects.balancer_addresses(service):
+        return ""
+    given = members(service, "status", "loadBalancer", "ingress")
+    if objects.addresses_in(member(it, "ip") for it in given):
+        return "ipMode Proxy: nodes have no rules for it"
+    if any(text(it, "hostname") for it in given):
+        return "a hostname only: nodes have no rules for it"
+    return "no address in status yet"
 
 
 def ports_of(service):

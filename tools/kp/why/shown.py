@@ -8,6 +8,7 @@ from ..objects import address_of
 from ..state import some
 from .asked import timeout_of
 from .near import near_misses
+from .order import order
 from .places import CALLED, host_text
 from .said import (
     chance_text,
@@ -120,6 +121,7 @@ def notes(state, words, answer):
     """What stands below the endpoints."""
     yield from labelled("near", near_misses(state, answer))
     yield from labelled("instead", instead(answer))
+    yield from labelled("order", order(state, answer))
     yield from labelled("affinity", affinity(state, answer))
     yield from labelled("health", health(answer))
     yield from labelled("others", others(state, words, answer))
@@ -142,7 +144,7 @@ def affinity(state, answer):
     if seconds is not None:
         yield (
             f"ClientIP: a client that came is kept at its endpoint until {seconds} seconds pass "
-            "without a new connection; this one didn't come yet"
+            "without a new connection; asked as a client that didn't come within that time"
         )
 
 
@@ -237,6 +239,7 @@ IMPLIED = {
 def said_once(state, answers):
     yield from labelled("near", once(it for one in answers for it in near_misses(state, one)))
     yield from labelled("instead", once(it for one in answers for it in instead(one)))
+    yield from labelled("order", once(it for one in answers for it in order(state, one)))
     yield from labelled("affinity", once(it for one in answers for it in affinity(state, one)))
 
 

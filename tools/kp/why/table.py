@@ -2,9 +2,11 @@
 
 from ..objects import text
 from ..state import some
-from .near import without_places
-from .places import CALLED, targets_at, ports_of
-from .shown import BOLD, coloured, laid_out, labelled
+from .near import service_name, without_places
+from .order import order
+from .places import CALLED, lack_of_balancer, targets_at, ports_of
+from .said import key_of
+from .shown import BOLD, coloured, laid_out, labelled, once
 
 COLUMNS = {
     ("outside", False): "OUTSIDE",
@@ -30,8 +32,14 @@ def column_of(source):
     return source["whence"], bool(source["inRangesOf"])
 
 
-def cell_text(source):
-    """What a kind of source gets, in the program's words."""
+def cell_text(source, service):
+    """What a kind of source gets at a place of a Service, in the program's words."""
+    owner = key_of(source["door"])
+    other = "" if owner == service else f" of {owner.namespace}/{owner.name}"
+    return f"{got_text(source)}{other}"
+
+
+def got_text(source):
     if "verdict" in source:
         return f"{source['verdict']}, {source['cause']}"
     count, masked, refused = source["open"], source["masked"], source["refused"]
@@ -44,7 +52,7 @@ def cells_of(answer):
     """A cell for each column that the answer has, or the same for all where no door fits."""
     found = {}
     for it in answer.sources:
-        found.setdefault(column_of(it), []).append(cell_text(it))
+        found.setdefault(column_of(it), []).append(cell_text(it, answer.question.target.service))
     return {column: " or ".join(dict.fromkeys(cells)) for column, cells in found.items()}
 
 
@@ -65,6 +73,12 @@ def table(state, answers):
     head = ["SERVICE", "PLACE", *(["NODES"] if nodes > 1 else []), *(COLUMNS[it] for it in columns)]
     first, *rest = laid_out([head, *rows])
     yield from [coloured(first, BOLD), *rest, "", LEGEND]
+    yield from labelled("order", orders(state, answers))
+
+
+def orders(state, answers):
+    """At which places another Service may answer on a node."""
+    return once(f"{it.question.target.at()}: {one}" for it in answers for one in order(state, it))
 
 
 def row_of(target, cells, named, nodes, columns):
@@ -77,7 +91,12 @@ def row_of(target, cells, named, nodes, columns):
 
 
 def others(state):
-    """Services that have no place."""
-    have = {it.service for it in all_targets(state)}
-    told = [without_places(state, it) for it in sorted(state.services) if it not in have]
+    """Services that have no place, and load balancers that have none."""
+    have, told = {it.service for it in all_targets(state)}, []
+    for key in sorted(state.services):
+        lack = lack_of_balancer(state.services[key])
+        if key not in have:
+            told.append(without_places(state, key))
+        elif lack:
+            told.append(f"{service_name(key)}, load balancer: {lack}")
     return labelled("besides", told)
