@@ -473,7 +473,7 @@ CHANCE  ENDPOINT          POD            NODE  ZONE  SEES
 50.0 %  10.244.1.10:8080  default/web-a  n1    a     10.244.1.30
 50.0 %  10.244.2.10:8080  default/web-b  n2    b     10.244.1.30
 
-affinity ClientIP: a client that came is kept at its endpoint until 600 seconds pass without a new connection; this one didn't come yet
+affinity ClientIP: a client that came is kept at its endpoint until 600 seconds pass without a new connection; asked as a client that didn't come within that time
 others   from outside 10.244.0.0/16 and from n1 itself: the same two, which see an address of n1
 """,
             )
@@ -540,6 +540,92 @@ CHANCE  ENDPOINT          POD            NODE  ZONE  SEES
 50.0 %  10.244.2.10:8080  default/web-b  n2    b     an address of n2
 
 others   from 10.244.0.0/16 and from n2 itself: the same two, which see an address of n2
+""",
+            )
+        ],
+    ),
+    Case(
+        "one_external_ip_of_two",
+        SERVICES,
+        "externalIPs are not managed by Kubernetes and are the responsibility of the cluster "
+        "administrator.",
+        cluster(
+            *web(externalIPs=["198.51.100.32"]),
+            slice_of("web", both()),
+            pod("api-a", "10.244.1.60"),
+            service(
+                "api",
+                "10.96.0.60",
+                [port("http", 80, 8080)],
+                {"app": "api"},
+                externalIPs=["198.51.100.32"],
+            ),
+            slice_of("api", [entry("10.244.1.60", "n1", "api-a")]),
+        ),
+        [
+            (
+                "--from 192.0.2.9 --to 198.51.100.32:80",
+                """
+n1, n2  198.51.100.32:80  100 %  10.244.1.60:8080  default/api-a  sees an address of the node
+
+order    here by name; on a node either Service default/api or Service default/web may answer (docs/KUBE-PROXY.md)
+""",
+            ),
+            (
+                "--from 192.0.2.9 --to svc/default/web/external --node n2",
+                """
+192.0.2.9 to Service default/api, port http: external IP 198.51.100.32:80/TCP
+
+CHANCE  ENDPOINT          POD            NODE  ZONE  SEES
+100 %   10.244.1.60:8080  default/api-a  n1    a     an address of n2
+
+instead  Service default/web has this place too, and Service default/api, port http answers there
+order    here by name; on a node either Service default/api or Service default/web may answer (docs/KUBE-PROXY.md)
+others   from 10.244.0.0/16 and from n2 itself: the same endpoint, which sees an address of n2
+""",
+            ),
+            (
+                "--node n1",
+                """
+SERVICE           PLACE                             OUTSIDE                  CLUSTER                  NODE
+default/api:http  cluster IP 10.96.0.60:80/TCP      1 masked                 1                        1 masked
+default/api:http  external IP 198.51.100.32:80/TCP  1 masked                 1 masked                 1 masked
+default/web:http  cluster IP 10.96.0.20:80/TCP      2 masked                 2                        2 masked
+default/web:http  external IP 198.51.100.32:80/TCP  1 masked of default/api  1 masked of default/api  1 masked of default/api
+
+masked: the endpoint sees an address of the node in place of the client's
+order    198.51.100.32:80/TCP: here by name; on a node either Service default/api or Service default/web may answer (docs/KUBE-PROXY.md)
+""",
+            ),
+        ],
+    ),
+    Case(
+        "one_external_ip_of_two_of_which_one_has_endpoints",
+        DEBUG,
+        "If ENDPOINTS is <none>, check that the Service's selector matches labels of Pods.",
+        cluster(
+            *web(externalIPs=["198.51.100.32"]),
+            slice_of("web", both()),
+            service(
+                "api",
+                "10.96.0.60",
+                [port("http", 80, 8080)],
+                {"app": "api"},
+                externalIPs=["198.51.100.32"],
+            ),
+            slice_of("api", [], ()),
+        ),
+        [
+            (
+                "--from 192.0.2.9 --to 198.51.100.32:80 --node n1",
+                """
+192.0.2.9 to Service default/web, port http: external IP 198.51.100.32:80/TCP
+
+CHANCE  ENDPOINT          POD            NODE  ZONE  SEES
+50.0 %  10.244.1.10:8080  default/web-a  n1    a     an address of n1
+50.0 %  10.244.2.10:8080  default/web-b  n2    b     an address of n1
+
+others   from 10.244.0.0/16 and from n1 itself: the same two, which see an address of n1
 """,
             )
         ],

@@ -23,6 +23,7 @@ def local(policy, entries):
 BESIDE = slice_of("web", [entry("192.0.2.50", None)], managed=False)
 EXTERNAL = {"externalIPs": ["198.51.100.32"]}
 OTHER = [pod("api-a", "10.244.1.60"), slice_of("api", [entry("10.244.1.60", "n1", "api-a")])]
+NONE = slice_of("api", [], ())
 AFFINITY = {"sessionAffinity": "ClientIP", "sessionAffinityConfig": {"clientIP": {"timeoutSeconds": 600}}}
 
 
@@ -83,16 +84,23 @@ FAULTY = [
     Faulty(
         "local-without-endpoints",
         "spec.externalTrafficPolicy",
-        "dropped (times out) on 1 of 1 nodes: no ready endpoint is on n1",
+        "dropped (times out) on 1 of 2 nodes: no ready endpoint is on n1",
         local("Local", [entry("10.244.2.10", "n2", "web-b")]),
         local("Cluster", [entry("10.244.2.10", "n2", "web-b")]),
     ),
     Faulty(
         "one-place-of-several",
         "external IP",
-        "Service default/api answers there",
+        "either may answer, by node and by sync; here default/api, by name",
         cluster(*web(**EXTERNAL), slice_of("web", both()), api(**EXTERNAL), *OTHER),
         cluster(*web(**EXTERNAL), slice_of("web", both()), api(), *OTHER),
+    ),
+    Faulty(
+        "one-place-of-several",
+        "external IP",
+        "Service default/web answers there",
+        cluster(*web(**EXTERNAL), slice_of("web", both()), api(**EXTERNAL), OTHER[0], NONE),
+        cluster(*web(**EXTERNAL), slice_of("web", both()), api(), OTHER[0], NONE),
     ),
     Faulty(
         "slice-beside-the-controller",

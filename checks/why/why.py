@@ -14,6 +14,8 @@ kubectl prints.
 import json
 import os
 import random
+import re
+import shlex
 import shutil
 import subprocess
 import sys
@@ -59,10 +61,10 @@ def copied_cluster(folder):
     return f"{folder}/cluster"
 
 
-def state_of(tool, items, path, *words):
-    """Has tools/cluster write the state of n1 for these objects."""
+def state_of(tool, items, path, *words, node="n1"):
+    """Has tools/cluster write the state of a node for these objects."""
     pipe, data = subprocess.PIPE, kubectl.text_of(items).encode()
-    made = subprocess.run([tool, "n1", "-", *words], input=data, stdout=pipe, stderr=pipe)
+    made = subprocess.run([tool, node, "-", *words], input=data, stdout=pipe, stderr=pipe)
     Path(path).write_bytes(made.stdout)
     expect(made.returncode == 0, f"tools/cluster: {made.stderr.decode()}")
 
@@ -102,6 +104,8 @@ def check_objects(name, path, words):
     """The objects of an answer meet the schema."""
     status, found, said = run([path, *words, "-o", "json"])
     expect(status == 0, f"{name}: {words}: -o json: status {status}: {said}")
+    chances = len(re.findall(r'"chance":[01][.][0-9]{10}[,}]', found))
+    expect(chances == found.count('"chance":'), f"{name}: {words}: -o json: a chance isn't a number")
     for line in found.splitlines():
         if jsonschema is not None:
             error = next(jsonschema.Draft7Validator(SCHEMA).iter_errors(json.loads(line)), None)
@@ -162,7 +166,8 @@ def lines_said(log):
 def lines_printed(text):
     """The same of the tool's objects."""
     found = []
-    for value in map(json.loads, text.splitlines()):
+    for line in text.splitlines():
+        value = json.loads(line, parse_float=str)  # chances, as they are printed
         for form, name in (("path", "paths"), ("aside", "asides"), ("source", "sources")):
             found += [shape_of({"form": form, **it}) for it in value.get(name, ())]
     return sorted(found)
@@ -190,7 +195,10 @@ def check_changes(folder):
         expect(status == it.status, f"{it.name}: status {status}: {said}")
         told = differs(it.wanted[1:], found)
         expect(not told, f"{it.name}: {told}")
-        check_as_file(tool, it, folder, found)
+        is_said = it.said in said and (it.status != 2 or said.count("\n") == 1)
+        expect(is_said, f"{it.name}: on standard error: {said}")
+        if it.status != 2:
+            check_as_file(tool, it, folder, found)
     for words in ([], [path], [path, path, "--drain", "n1"], [path, path, "--fail-on", "all"]):
         status, _, said = run(words, PLAN)
         expect(status == 2 and said.startswith("usage: tools/plan"), f"{words}: status {status}: {said}")
@@ -223,6 +231,10 @@ def check_findings(folder):
             expect(one["becomes"].startswith(it.consequence), f"{it.code}: {one['becomes']}")
         text = run([path], ANALYZE)[1]
         expect(f"{it.code}: " in text, f"{it.code}: isn't in the text: {text}")
+        check_asked(it.code, path, text)
+        state_of(tool, it.items, f"{folder}/other.jsonl", *words, node="n2")
+        other = run([f"{folder}/other.jsonl"], ANALYZE)[1].replace("/other.jsonl", "/faulty.jsonl")
+        expect(other == text, f"{it.code}: written for n2: {differs(text, other)}")
         state_of(tool, it.mended, path, *words)
         status, found, said = run([path, "-o", "json"], ANALYZE)
         codes = [json.loads(one)["code"] for one in found.splitlines()]
@@ -232,6 +244,16 @@ def check_findings(folder):
         found = run([path, "-o", "json"], ANALYZE, **told)[1]
         codes = [json.loads(one)["code"] for one in found.splitlines()]
         expect(it.code not in codes, f"{it.code}: is found where no answer bears it out: {found}")
+
+
+def check_asked(code, path, text):
+    """The call that a finding prints is answered."""
+    asked = [shlex.split(it)[1:] for it in text.splitlines() if it.startswith("    ask ")]
+    expect(asked, f"{code}: prints no call")
+    for tool, *words in asked:
+        expect((tool, words[0]) == ("tools/why", path), f"{code}: asks {tool} {words}")
+        status, _, said = run(words)
+        expect((status, said) == (0, ""), f"{code}: {words}: status {status}: {said}")
 
 
 # ---- random clusters
@@ -362,11 +384,41 @@ def check_faults(folder):
         status, found, said = run(words)
         is_so = subprocess.run(["grep", "-q", "--", sentence], input=said.encode()).returncode == 0
         expect((status, found, said.count("\n")) == (1, "", 1) and is_so, f"{words}: status {status}: {said}")
+    check_without_range(folder, path, question)
+    check_balancers(folder, question[:2])
     for words in ([], [path, "--from", "10.0.0.1"], [path, "--chains"], [path, "--why"], [path, "-o", "yaml"]):
         status, _, said = run(words)
         expect(status == 2 and said.startswith("usage: tools/why"), f"{words}: status {status}: {said}")
     status, _, said = run([path, *question], KPROXY="/bin/false")
     expect(status == 1 and said.startswith("why: the program ended with status 1"), f"false: {said}")
+
+
+def check_without_range(folder, path, question):
+    """A state without the range of Pods: it's said once."""
+    lines = Path(path).read_text().splitlines(keepends=True)
+    setting = {it: value for it, value in json.loads(lines[0]).items() if it != "clusterCIDR"}
+    Path(f"{folder}/no-range.jsonl").write_text("".join([json.dumps(setting) + "\n", *lines[1:]]))
+    wanted = "no clusterCIDR in the state: Pods count as outside; give --cluster-cidr to tools/cluster"
+    for words in (question, []):
+        status, _, said = run([f"{folder}/no-range.jsonl", *words, "--node", "all"])
+        expect((status, said) == (0, f"why: {wanted}\n"), f"no range: {words}: status {status}: {said}")
+
+
+def check_balancers(folder, source):
+    """A load balancer without an address that is a door: why it has none."""
+    path, tool = f"{folder}/balancer.jsonl", copied_cluster(folder)
+    lacks = [
+        (None, "no address in status yet"),
+        ([{"hostname": "lb.example.com"}], "a hostname only: nodes have no rules for it"),
+        ([{"ip": "203.0.113.20", "ipMode": "Proxy"}], "ipMode Proxy: nodes have no rules for it"),
+    ]
+    for ingress, lack in lacks:
+        made = cases.web(form="LoadBalancer", ingress=ingress)
+        state_of(tool, cases.cluster(*made, kubectl.slice_of("web", cases.both())), path)
+        told = f"Service default/web, load balancer: {lack}"
+        found = run([path, *source, "--to", "svc/default/web/lb"])
+        expect(found == (1, "", f"why: {told}; it has cluster IP\n"), f"load balancer: {found}")
+        expect(f"besides  {told}\n" in run([path])[1], f"table: it doesn't say: {told}")
 
 
 def main(program, count, first):
