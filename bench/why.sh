@@ -19,7 +19,7 @@ asked = ["--to", "svc/default/s3/lb"]
 calls = [
     ("tools/why at one node", ["tools/why", "--from", "pod/default/s0-0", *asked]),
     ("tools/why at all", ["tools/why", "--from", "198.51.100.7", *asked]),
-    ("tools/analyze at one node", ["tools/analyze"]),
+    ("tools/analyze at one node", ["tools/analyze", "--node", "n1"]),
 ]
 for name, (tool, *words) in calls:
     begin = time.monotonic()
